@@ -1,0 +1,7 @@
+pub mod Digits
+pub mod Runs
+pub mod Classes
+pub mod Marks
+pub mod Unique
+pub mod PlaceLemmas
+pub mod CutLemmas

@@ -1,0 +1,8 @@
+pub mod Bytes
+pub mod Tables
+pub mod Shapes
+pub mod Places
+pub mod Tokens
+pub mod Lexes
+pub mod Fronts
+pub mod Laws
