@@ -1,0 +1,15 @@
+mod Heaps
+mod Lines
+mod ReadTexts
+mod Productions
+mod WholeForms
+mod Flat
+mod Mains
+mod NameKinds
+mod Kinded
+mod Threads
+mod Locks
+mod Runs
+mod Progress
+mod Ready
+mod Outcomes

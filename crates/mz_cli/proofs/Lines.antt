@@ -1,0 +1,12 @@
+-- The lines of prints, one after another.
+use Rattle.std.proofs.Common.{◌≡◌, ℕ, List, [], ◌∷◌, ◌++◌, sym, ap, ◌∙◌, append_assoc, append-nil, decimal}
+use Rattle.mz_cli.specs.Outcome.{line, print_lines}
+
+-- one more print is one more line
+pub lines_more : (prints : List ℕ) (n : ℕ) → print_lines (prints ++ n ∷ []) ≡ print_lines prints ++ line (decimal n)
+lines_more [] n = append-nil (line (decimal n))
+lines_more (m ∷ prints) n = ap (λ l. line (decimal m) ++ l) (lines_more prints n) ∙ sym (append_assoc (line (decimal m)) (print_lines prints) (line (decimal n)))
+
+-- parts that are joined from the right make the line that is joined from the left
+pub one_line : (number column : List ℕ) → number ++ 58 ∷ (column ++ 10 ∷ []) ≡ ((number ++ 58 ∷ []) ++ column) ++ 10 ∷ []
+one_line number column = sym (ap (λ l. l ++ 10 ∷ []) (append_assoc number (58 ∷ []) column) ∙ append_assoc number (58 ∷ column) (10 ∷ []))

@@ -1,0 +1,103 @@
+-- From what the parts of a call answered to what the call answers.
+use Rattle.std.proofs.Common.{◌≡◌, ℕ, ◌+◌, ◌<◌, ◌≤◌, List, [], ◌∷◌, ◌++◌, length, Option, Some, None, Result, Ok, Err, IfOk, refl, sym, ap, ◌∙◌, subst, ◌⊎◌, inl, inr, String, string_bytes, get_or, arith, codes, length-append, append-nil}
+use Rattle.std.specs.declared.alloc.Global.{Global}
+use Rattle.mz_base.specs.Causes.{Rose}
+use Rattle.mz_base.specs.Told.{Gains, GainsFront, GivesAll, LosesExactly}
+use Rattle.mz_tree.specs.declared.types.Place.{Place}
+use Rattle.mz_tree.specs.Code.{Body}
+use Rattle.mz_tree.specs.Programs.{Program}
+use Rattle.mz_cli.specs.declared.status.Status.{Status}
+use Rattle.mz_cli.specs.declared.status.Status.TheVariants as status
+use Rattle.mz_cli.specs.declared.run.Ending.TheVariants as ending
+use Rattle.mz_cli.specs.Running.{RunsTo}
+use Rattle.mz_cli.specs.Reads.{ReadsFirst, IsMain}
+use Rattle.mz_cli.specs.Outcome.{IsSched, source_limit, print_lines, stop_line, Answers, AreLeft, Comes, Traffic, Outcome}
+use Rattle.mz_cli.specs.Answered.{IsReady, RunAnswers}
+
+-- ---- words
+
+-- two words of which the second has these bytes
+pub two_words : (words : List (String Global)) (mode : String Global) → 2 ≤ length words → length words < 3 → mode ≡ get_or words 1 mode → string_bytes mode ≡ codes "sched" → IsSched words
+two_words [] mode most least is named = absurd (omega arith)
+two_words (x ∷ []) mode most least is named = absurd (omega arith)
+two_words (x ∷ y ∷ []) mode most least is named = (x, y, refl, ap string_bytes (sym is) ∙ named)
+two_words (x ∷ y ∷ z ∷ rest) mode most least is named = absurd (omega arith)
+
+-- .. and the other way round
+pub second_word : (words : List (String Global)) (mode : String Global) → IsSched words → mode ≡ get_or words 1 mode → string_bytes mode ≡ codes "sched"
+second_word words mode (x, y, both, named) is = ap string_bytes (is ∙ ap (λ (l : List (String Global)). get_or l 1 mode) both) ∙ named
+
+-- ---- runs
+
+pub ended : (program : Program) (body : Body) (prints text : List ℕ) → IsMain program body → RunsTo body ending.Ended prints → text ≡ print_lines prints → RunAnswers program status.Done text
+ended program body prints text main (w, leads, done, same) written = (body, w, main, leads, done, written ∙ ap print_lines same)
+
+pub halted : (program : Program) (body : Body) (place : Place) (prints text : List ℕ) → IsMain program body → RunsTo body (ending.Stopped place) prints → text ≡ print_lines prints ++ stop_line place → RunAnswers program status.Stopped text
+halted program body place prints text main (w, leads, stops, same) written = (body, w, place, main, leads, stops, written ∙ ap (λ l. print_lines l ++ stop_line place) same)
+
+-- what the run answers is what the bytes answer
+pub run_answers : (bytes : List ℕ) (program : Program) (s : Status) (text : List ℕ) → length bytes ≤ source_limit → ReadsFirst bytes program → IsReady program → RunAnswers program s text → Answers bytes s text
+run_answers bytes program status.Done text short reads ready (body, w, main, leads, done, written) =
+    (program, body, w, record { short = short; reads = reads; main = main; safe = ready.safe body main }, leads, done, written)
+run_answers bytes program status.Stopped text short reads ready (body, w, place, main, leads, stops, written) =
+    (program, body, w, place, record { short = short; reads = reads; main = main; safe = ready.safe body main }, leads, stops, written)
+run_answers bytes program status.Refused text short reads ready h = absurd h
+run_answers bytes program status.Usage text short reads ready h = absurd h
+run_answers bytes program status.ReadFault text short reads ready h = absurd h
+run_answers bytes program status.WriteFault text short reads ready h = absurd h
+run_answers bytes program status.Memory text short reads ready h = absurd h
+
+-- what holds of one answer holds of it for another reason
+pub if_ok : {A E : Type 0} (P Q : A → Type 0) → ((a : A) → P a → Q a) → (r : Result A E) → IfOk r P → IfOk r Q
+if_ok P Q from (Ok a) p = from a p
+if_ok P Q from (Err e) p = tt
+
+-- ---- what was read
+
+-- all that was left was read
+pub all_left : (old new : Option (List ℕ)) (bytes : List ℕ) → GivesAll old new bytes → AreLeft old bytes
+all_left None new bytes all = tt
+all_left (Some xs) None bytes all = absurd all.0
+all_left (Some xs) (Some ys) bytes all = all.0 ∙ ap (λ l. bytes ++ l) all.1 ∙ append-nil bytes
+
+-- more was read than may be
+pub too_many : (old new : Option (List ℕ)) → LosesExactly old new (source_limit + 1) → (bytes : List ℕ) × AreLeft old bytes × (source_limit < length bytes)
+too_many None new (front, long, loses) = (front, tt, omega (arith, long))
+too_many (Some xs) None (front, long, loses) = absurd loses
+too_many (Some xs) (Some ys) (front, long, loses) = (xs, refl, omega (arith, long, ap length loses, length-append front ys))
+
+-- ---- what was written
+
+-- the text was written whole, or a front of it after a fault
+abbrev pub Wrote : Traffic → Status → Status → List ℕ → Type 0
+Wrote t s result text =
+    ((result ≡ s) × Gains t.written t.written_after text)
+    ⊎ ((result ≡ status.WriteFault) × (Rose t.sink_faults t.sink_faults_after ⊎ Rose t.stalls t.stalls_after) × GainsFront t.written t.written_after text)
+
+whole : (words : List (String Global)) (t : Traffic) (s : Status) (text : List ℕ) → Comes words t.left s text → Gains t.written t.written_after text → Outcome words t s
+whole words t status.Done text comes gains = (text, comes, gains)
+whole words t status.Stopped text comes gains = (text, comes, gains)
+whole words t status.Refused text comes gains = (text, comes, gains)
+whole words t status.Usage text comes gains = (text, comes, gains)
+whole words t status.ReadFault text (sched, (bytes, left, never)) gains = absurd never
+whole words t status.WriteFault text (sched, (bytes, left, never)) gains = absurd never
+whole words t status.Memory text (sched, (bytes, left, never)) gains = absurd never
+
+-- where the text comes with the status and the write went so, the call's outcome is this
+pub written_out : (words : List (String Global)) (t : Traffic) (s result : Status) (text : List ℕ) → Comes words t.left s text → Wrote t s result text → Outcome words t result
+written_out words t s result text comes (inl (same, gains)) = subst (Outcome words t) (sym same) (whole words t s text comes gains)
+written_out words t s result text comes (inr (same, rose, gains)) = subst (Outcome words t) (sym same) (rose, (s, text, comes, gains))
+
+-- a status that the bytes answer isn't that of a fault
+pub no_fault : (bytes text : List ℕ) (s : Status) → Answers bytes s text → s ≡ status.WriteFault → ⊥
+no_fault bytes text s answers same = subst (λ (x : Status). Answers bytes x text) same answers
+
+-- words that are taken, and bytes with their answer
+pub comes_of : (words : List (String Global)) (left : Option (List ℕ)) (bytes : List ℕ) (s : Status) (text : List ℕ) → IsSched words → AreLeft left bytes → Answers bytes s text → Comes words left s text
+comes_of words left bytes status.Usage text sched are answers = absurd answers
+comes_of words left bytes status.Done text sched are answers = (sched, (bytes, are, answers))
+comes_of words left bytes status.Stopped text sched are answers = (sched, (bytes, are, answers))
+comes_of words left bytes status.Refused text sched are answers = (sched, (bytes, are, answers))
+comes_of words left bytes status.ReadFault text sched are answers = absurd answers
+comes_of words left bytes status.WriteFault text sched are answers = absurd answers
+comes_of words left bytes status.Memory text sched are answers = absurd answers

@@ -1,0 +1,15 @@
+use Rattle.std.proofs.Common.{string_bytes}
+use Rattle.mz_tree.specs.View.{plain_program}
+use Rattle.mz_cli.specs.Outcome.{Answers}
+use Rattle.mz_cli.specs.Answered.{RunAnswers}
+use Rattle.mz_cli.proofs.Outcomes.{run_answers, if_ok}
+use Rattle.mz_cli.proofs.Ready.{ready}
+use Rattle.mz_cli.proofs.top.answer_to.Goals as goal
+
+pub run_main-requires : goal.run_main-requires
+run_main-requires c = ready c.args.bytes.now (plain_program c.in-Ok.program) c.in-Ok.ensures
+
+pub returns-in-Ok : goal.returns-in-Ok
+returns-in-Ok c = if_ok (λ answer. RunAnswers (plain_program c.in-Ok.program) answer.status (string_bytes answer.text)) (λ answer. Answers c.args.bytes.now answer.status (string_bytes answer.text))
+    (λ answer run. run_answers c.args.bytes.now (plain_program c.in-Ok.program) answer.status (string_bytes answer.text) c.requires c.in-Ok.ensures (ready c.args.bytes.now (plain_program c.in-Ok.program) c.in-Ok.ensures) run)
+    c.run_main.result c.run_main.ensures

@@ -1,0 +1,11 @@
+pub mod Machine
+pub mod Running
+pub mod Reading
+pub mod Grammar
+pub mod Stops
+pub mod Flattening
+pub mod Flats
+pub mod Reads
+pub mod Numbers
+pub mod Outcome
+pub mod Answered

@@ -1,0 +1,113 @@
+-- What a call of the whole program answers, for which cause, and what it writes.
+use Rattle.std.specs.Prelude.{◌≡◌, ◌⊎◌, ℕ, ◌<◌, ◌≤◌, List, [], ◌∷◌, ◌++◌, length, Option, IfSome, String, string_bytes, codes, decimal}
+use Rattle.std.specs.declared.alloc.Global.{Global}
+use Rattle.mz_base.specs.Causes.{Rose}
+use Rattle.mz_base.specs.Told.{Gains, GainsFront}
+use Rattle.mz_tree.specs.declared.types.Place.{Place}
+use Rattle.mz_tree.specs.Code.{Body}
+use Rattle.mz_tree.specs.Programs.{Program}
+use Rattle.mz_cli.specs.declared.status.Status.{Status}
+use Rattle.mz_cli.specs.declared.status.Status.TheVariants.{Done, Refused, Usage, Stopped, ReadFault, WriteFault, Memory}
+use Rattle.mz_cli.specs.Machine.{Config, LeadsTo, HasEnded, StopsAt, NeverWrong}
+use Rattle.mz_cli.specs.Reads.{ReadsFirst, IsMain}
+
+-- ---- words and limits
+
+-- the program's name and `sched`
+abbrev pub IsSched : List (String Global) → Type 0
+IsSched words = (name : String Global) × (mode : String Global) × (words ≡ name ∷ mode ∷ []) × (string_bytes mode ≡ codes "sched")
+
+-- the most bytes of a source
+abbrev pub source_limit : ℕ
+source_limit = 1048576
+
+-- ---- texts
+
+abbrev pub line : List ℕ → List ℕ
+line text = text ++ 10 ∷ []
+
+-- each print is its decimal digits and a line end
+abbrev pub print_lines : List ℕ → List ℕ
+print_lines [] = []
+print_lines (n ∷ prints) = line (decimal n) ++ print_lines prints
+
+abbrev pub usage_line : List ℕ
+usage_line = line (codes "usage: mezzo MODE [--heap N] [--steps N] [--tries N] [--workers N] [--quantum N] [--size N]")
+
+abbrev pub stop_line : Place → List ℕ
+stop_line place = line (codes "stopped: thread 0: arithmetic at " ++ decimal place.line ++ codes ":" ++ decimal place.col)
+
+-- ---- refusals
+
+-- there are more bytes than a source may have
+abbrev pub IsTooLong : List ℕ → Type 0
+IsTooLong bytes = source_limit < length bytes
+
+-- there are no more, and they are no text of the first form
+abbrev pub IsUnbuilt : List ℕ → Type 0
+IsUnbuilt bytes = (length bytes ≤ source_limit) × ((program : Program) → ReadsFirst bytes program → ⊥)
+
+-- ---- runs
+
+-- the bytes are within the limit and a text of the first form of this program, and no run of it is ever wrong
+pub record Runs (bytes : List ℕ) (program : Program) (body : Body) : Type 0 where
+  pub short : length bytes ≤ source_limit
+  pub reads : ReadsFirst bytes program
+  pub main : IsMain program body
+  pub safe : NeverWrong body
+
+-- ---- answers
+
+-- the status that the bytes of a source have, and the text that is written with it
+abbrev pub Answers : List ℕ → Status → List ℕ → Type 0
+-- the run ends: its prints
+Answers bytes Done text =
+    (program : Program) × (body : Body) × (w : Config) × Runs bytes program body × LeadsTo body w
+    × HasEnded w 0 × (text ≡ print_lines w.prints)
+-- the run stops at an arithmetic command: its prints, and where it stopped
+Answers bytes Stopped text =
+    (program : Program) × (body : Body) × (w : Config) × (place : Place) × Runs bytes program body × LeadsTo body w
+    × StopsAt w 0 place × (text ≡ print_lines w.prints ++ stop_line place)
+-- the first refusal that holds
+Answers bytes Refused text =
+    (IsTooLong bytes × (text ≡ line (codes "refused: too long"))) ⊎ (IsUnbuilt bytes × (text ≡ line (codes "refused: not built yet")))
+Answers bytes _ text = ⊥
+
+-- the source's bytes, which are those that it tells, if it tells any
+abbrev pub AreLeft : Option (List ℕ) → List ℕ → Type 0
+AreLeft left bytes = IfSome left (λ told. told ≡ bytes)
+
+-- the status and the text that come of the words and of the source's bytes, where nothing fails
+abbrev pub Comes : List (String Global) → Option (List ℕ) → Status → List ℕ → Type 0
+Comes words left Usage text = (IsSched words → ⊥) × (text ≡ usage_line)
+Comes words left status text = IsSched words × ((bytes : List ℕ) × AreLeft left bytes × Answers bytes status text)
+
+-- what a call saw of its source and its sink: each count, and what each tells, before and after it
+pub record Traffic : Type 0 where
+  pub left : Option (List ℕ)
+  pub source_faults : ℕ
+  pub source_faults_after : ℕ
+  pub written : Option (List ℕ)
+  pub written_after : Option (List ℕ)
+  pub sink_faults : ℕ
+  pub sink_faults_after : ℕ
+  pub stalls : ℕ
+  pub stalls_after : ℕ
+
+-- what comes was written whole
+abbrev pub Writes : List (String Global) → Traffic → Status → Type 0
+Writes words t status = (text : List ℕ) × Comes words t.left status text × Gains t.written t.written_after text
+
+abbrev pub Outcome : List (String Global) → Traffic → Status → Type 0
+Outcome words t Done = Writes words t Done
+Outcome words t Stopped = Writes words t Stopped
+Outcome words t Refused = Writes words t Refused
+Outcome words t Usage = Writes words t Usage
+-- a read failed, and nothing was written
+Outcome words t ReadFault = IsSched words × Rose t.source_faults t.source_faults_after × (t.written_after ≡ t.written)
+-- a write failed or took nothing, and a front of what would have come was written
+Outcome words t WriteFault =
+    (Rose t.sink_faults t.sink_faults_after ⊎ Rose t.stalls t.stalls_after)
+    × ((status : Status) × (text : List ℕ) × Comes words t.left status text × GainsFront t.written t.written_after text)
+-- want of memory, and nothing was written
+Outcome words t Memory = IsSched words × (t.written_after ≡ t.written)

@@ -1,0 +1,26 @@
+//! The whole of what the program does: words and bytes in, a status and a text out.
+//!
+//! It stands on `specs/Outcome.antt`, which says by cases on the status why it comes and what is written, and through it on
+//! the tokens of a text, the grammar of the first form, its flat program (`specs/Flattening.antt`) and the named machine
+//! (`specs/Machine.antt`). The promise of `mezzo` is that what is written is the prints of a run of the program that the
+//! source is a text of, that no run of it is ever wrong, and that each other answer has its cause.
+//!
+//! Design choices: the whole text is made before its first byte is written; the reader, the flattening and the run are
+//! private modules, each with a contract that speaks of plain values, so that they can move to crates of their own.
+#![tactic(auto)]
+
+mod first;
+mod flatten;
+mod form;
+mod machine;
+mod read;
+mod run;
+mod status;
+mod text;
+mod top;
+
+pub use status::Status;
+pub use top::{mezzo, mezzo_plain};
+
+#[cfg(test)]
+mod tests;

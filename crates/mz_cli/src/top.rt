@@ -1,0 +1,164 @@
+//! What the program does, from the words and the bytes to the text: it reads its source to the end, reads the text as a
+//! program, runs it, makes the whole text of its answer, and only then writes. It holds no logic of its own but the order
+//! of the refusals and the texts.
+ghost use Rattle.std.specs.Prelude.{◌≡◌, ◌⊎◌, ◌≤◌, ◌↔◌, length, IfOk, IsTrue, string_bytes, codes};
+ghost use Rattle.mz_base.specs.Causes.{Rose};
+ghost use Rattle.mz_base.specs.Told.{Gains, GainsFront};
+ghost use Rattle.mz_tree.specs.View.{plain_program};
+ghost use Rattle.mz_cli.specs.Outcome.{IsSched, source_limit, Answers, Outcome};
+ghost use Rattle.mz_cli.specs.Answered.{IsReady, RunAnswers};
+
+use crate::Status;
+use crate::first::{Refusal, main_of, read_program};
+use crate::run::{Ending, run_body};
+use crate::text::{TOO_LONG, UNBUILT, USAGE, printed, stopped};
+use mz_base::{Gate, InputFault, Sink, Source, read_all, write_all};
+use mz_tree::{Memory, Program};
+use std::alloc::Global;
+
+/// The most bytes of a source.
+const SOURCE_LIMIT: usize = 1_048_576;
+
+// What is answered, and the whole text that is written with it.
+#[derive(Drop)]
+struct Answer {
+    status: Status,
+    text: String,
+}
+
+fn is_sched(words: &[String]) -> bool
+    ensures { IsTrue result ↔ IsSched words.now }
+{
+    match words {
+        [_, mode] => mode.as_bytes() == b"sched".as_slice(),
+        _ => false,
+    }
+}
+
+// Runs the program's `main`.
+fn run_main(alloc: Global, program: &Program) -> Result<Answer, Memory>
+    requires { IsReady (plain_program program.now) }
+    ensures { IfOk result (λ answer. RunAnswers (plain_program program.now) answer.status (string_bytes answer.text)) }
+{
+    let Some(body) = main_of(program) else {
+        unreachable!()
+    };
+    let run = run_body(alloc, body)?;
+    let mut text = printed(alloc, run.prints.as_slice())?;
+    match run.ending {
+        Ending::Ended => Ok(Answer {
+            status: Status::Done,
+            text,
+        }),
+        Ending::Stopped(place) => {
+            let line = stopped(alloc, place)?;
+            text.push_str(&line)?;
+            Ok(Answer {
+                status: Status::Stopped,
+                text,
+            })
+        }
+        Ending::Wrong => unreachable!(),
+    }
+}
+
+// What the bytes of a source that isn't too long come to.
+fn answer_to(alloc: Global, bytes: &[u8]) -> Result<Answer, Memory>
+    requires { length bytes.now ≤ source_limit }
+    ensures { IfOk result (λ answer. Answers bytes.now answer.status (string_bytes answer.text)) }
+{
+    match read_program(alloc, bytes) {
+        Ok(program) => run_main(alloc, &program),
+        Err(Refusal::Unbuilt) => Ok(Answer {
+            status: Status::Refused,
+            text: String::from_str(alloc, UNBUILT)?,
+        }),
+        Err(Refusal::Memory) => Err(Memory),
+    }
+}
+
+// Writes a text, and answers the status that was to come.
+fn write_out<K: Sink>(sink: &mut K, text: &str, status: Status) -> Status
+    requires { status ≡ Status.WriteFault → ⊥ }
+    ensures { ((result ≡ status) × Gains (K.written sink.old) (K.written sink.new) text.now)
+        ⊎ ((result ≡ Status.WriteFault)
+        × (Rose (K.faults sink.old) (K.faults sink.new) ⊎ Rose (K.stalls sink.old) (K.stalls sink.new))
+        × GainsFront (K.written sink.old) (K.written sink.new) text.now) }
+{
+    match write_all(sink, text.as_bytes()) {
+        Ok(()) => status,
+        Err(_) => Status::WriteFault,
+    }
+}
+
+/// All that the program does but in the mode `run`, over any source and sink.
+///
+/// The words are taken where they are the program's name and `sched`. Then the source is read to its end, and a text of
+/// the first form of at most 1,048,576 bytes is run, and its prints are written, each as a line. The answers:
+///
+/// - `Done`: the run has ended.
+/// - `Stopped`: the run stopped at an arithmetic command, and the line that tells its place follows the prints.
+/// - `Refused`: the bytes are more than that (`refused: too long`), or no text of the first form (`refused: not built yet`).
+/// - `Usage`: the words aren't taken; the usage line is written, and nothing is read.
+/// - `ReadFault`: the source failed, and nothing was written.
+/// - `WriteFault`: the sink failed or took nothing; a front of the text that was to come was written.
+/// - `Memory`: want of memory; nothing was written.
+pub fn mezzo_plain<S: Source, K: Sink>(
+    alloc: Global,
+    words: &[String],
+    source: &mut S,
+    sink: &mut K,
+) -> Status
+    ensures outcome { Outcome words.now
+        (record {
+          left = S.left source.old;
+          source_faults = S.faults source.old;
+          source_faults_after = S.faults source.new;
+          written = K.written sink.old;
+          written_after = K.written sink.new;
+          sink_faults = K.faults sink.old;
+          sink_faults_after = K.faults sink.new;
+          stalls = K.stalls sink.old;
+          stalls_after = K.stalls sink.new;
+        }) result }
+    ensures unread { (IsSched words.now → ⊥) → source.new ≡ source.old }
+{
+    if !is_sched(words) {
+        return write_out(sink, USAGE, Status::Usage);
+    }
+    match read_all(alloc, source, SOURCE_LIMIT) {
+        Ok(bytes) => match answer_to(alloc, &bytes) {
+            Ok(answer) => write_out(sink, &answer.text, answer.status),
+            Err(Memory) => Status::Memory,
+        },
+        Err(InputFault::ReadFault) => Status::ReadFault,
+        Err(InputFault::TooLong) => write_out(sink, TOO_LONG, Status::Refused),
+        Err(InputFault::Memory) => Status::Memory,
+    }
+}
+
+/// All that the program does, over any source, sink and gate: as yet just what [`mezzo_plain`] does, and the gate isn't
+/// entered.
+pub fn mezzo<S: Source, K: Sink, G: Gate>(
+    alloc: Global,
+    words: &[String],
+    source: &mut S,
+    sink: &mut K,
+    _gate: &G,
+) -> Status
+    ensures outcome { Outcome words.now
+        (record {
+          left = S.left source.old;
+          source_faults = S.faults source.old;
+          source_faults_after = S.faults source.new;
+          written = K.written sink.old;
+          written_after = K.written sink.new;
+          sink_faults = K.faults sink.old;
+          sink_faults_after = K.faults sink.new;
+          stalls = K.stalls sink.old;
+          stalls_after = K.stalls sink.new;
+        }) result }
+    ensures unread { (IsSched words.now → ⊥) → source.new ≡ source.old }
+{
+    mezzo_plain(alloc, words, source, sink)
+}
