@@ -4,22 +4,35 @@
 
 use mz_base::{OpenGate, StdSink, StdSource};
 use mz_cli::{Status, mezzo};
+use mz_tree::Memory;
 use std::env;
+use std::io::ErrorKind;
 use std::process::ExitCode;
 
-fn all(rt: &HostRuntime) -> Status {
-    let alloc = rt.alloc();
-    let Ok(arguments) = env::args(rt) else {
-        return Status::Usage;
-    };
-    let Ok(words) = arguments.collect::<Vec<String>>(alloc) else {
+/// The words of the command line, the program's name first. Where one isn't UTF-8, there are none: no such words are taken,
+/// and the call then says so.
+fn command_line(rt: &HostRuntime) -> Result<Vec<String>, Memory> {
+    match env::args(rt) {
+        Ok(words) => Ok(words.collect::<Vec<String>>(rt.alloc())?),
+        Err(error) => {
+            if error.kind() == ErrorKind::OutOfMemory {
+                Err(Memory)
+            } else {
+                Ok(Vec::new(rt.alloc()))
+            }
+        }
+    }
+}
+
+fn run(rt: &HostRuntime) -> Status {
+    let Ok(words) = command_line(rt) else {
         return Status::Memory;
     };
     let mut source = StdSource::new(rt);
     let mut sink = StdSink::new(rt);
-    mezzo(alloc, &words, &mut source, &mut sink, &OpenGate::new())
+    mezzo(rt.alloc(), &words, &mut source, &mut sink, &OpenGate::new())
 }
 
 fn main(rt: HostRuntime) -> ExitCode {
-    ExitCode::from(all(&rt).number())
+    ExitCode::from(run(&rt).number())
 }
