@@ -1,0 +1,4 @@
+pub mod Firsts
+pub mod Adopters
+pub mod Made
+pub mod Limits

@@ -1,0 +1,68 @@
+//! From a program to its declarations.
+ghost use Rattle.std.specs.Prelude.{◌≡◌, map, IfOk};
+ghost use Rattle.mz_tree.specs.View.{plain_program};
+ghost use Rattle.mz_tree.specs.declared.program.Fun.{Fun as CodeFun};
+ghost use Rattle.mz_decl.specs.Declarations.{IsNumbered};
+ghost use Rattle.mz_decl.specs.View.{Forms};
+
+use crate::Decls;
+use crate::faults::immutable_adopter;
+use mz_tree::{Alike, Funs, Memory, Names, Place, Program};
+use sqlite_items::Items;
+use std::alloc::Global;
+
+/// Why a program's declarations aren't well formed.
+#[derive(Clone, Copy, Debug, PartialEq, Eq)]
+pub enum DeclFault {
+    /// An `adopts` stands on an immutable data type, or on a structural type of an immutable constructor. Of all such
+    /// places this is the first: that of the data type's own name, or that of the name after `adopts`.
+    ImmutableAdopter(Place),
+    /// Memory is wanting.
+    Memory,
+}
+
+impl From<Memory> for DeclFault {
+    ghost use Rattle.mz_decl.specs.declared.form.DeclFault.TheVariants.{Memory as MemoryFault};
+
+    ghost from_gives = { λ _ fault. fault ≡ MemoryFault };
+
+    fn from(_: Memory) -> Self {
+        DeclFault::Memory
+    }
+}
+
+/// The declarations of a program, or the first place at which an `adopts` stands on an immutable data type or on a
+/// structural type of an immutable constructor. The program keeps to the limits of the language, and each of its
+/// constructors belongs to one of its data types.
+pub fn well_formed(alloc: Global, program: &Program) -> Result<Decls, DeclFault>
+    requires numbered { IsNumbered (plain_program program.now) }
+    ensures { Forms (plain_program program.now) result }
+{
+    if let Some(place) = immutable_adopter(program) {
+        return Err(DeclFault::ImmutableAdopter(place));
+    }
+    let varieties = program.varieties.copy(alloc)?;
+    let cons = program.cons.copy(alloc)?;
+    let sigs = program.sigs.copy(alloc)?;
+    let fun_sigs = sigs_of(alloc, &program.funs)?;
+    let written = program.clauses.copy(alloc)?;
+    Ok(Decls {
+        varieties,
+        cons,
+        sigs,
+        fun_sigs,
+        written,
+    })
+}
+
+// the number of each function's signature
+fn sigs_of(alloc: Global, funs: &Funs) -> Result<Names, Memory>
+    ensures { IfOk result (λ it. it ≡ map (λ (f : CodeFun). f.sig) funs.now) }
+{
+    let all = funs.as_slice();
+    let mut numbers = Items::new(alloc);
+    for i in 0..all.len() {
+        numbers.push(all[i].sig)?;
+    }
+    Ok(numbers)
+}
