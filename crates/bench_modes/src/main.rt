@@ -1,5 +1,5 @@
-//! A program for `bench/run`: 1,000 data types in a chain of 999 fields, each affine because of the next, are marked. It
-//! writes whether the first is affine.
+//! A program for `bench/run`: 1,000 data types in a chain of 999 fields, each affine because of the next, are marked; with
+//! the word `half` it is 500 of them. It writes whether the first is affine.
 #![tactic(auto)]
 
 use mz_decl::{is_numbered, well_formed};
@@ -7,13 +7,11 @@ use mz_modes::modes;
 use mz_tree::{Atom, Con, Field, Memory, Place, Program, Ty, Variety};
 use sqlite_items::Items;
 use std::alloc::Global;
+use std::env;
 use std::process::ExitCode;
 
-/// How many data types there are.
-const LENGTH: u32 = 1000;
-
-// The data type of this number: immutable but for the last, with the constructor of its own number.
-fn variety(alloc: Global, number: u32) -> Result<Variety, Memory> {
+// The data type of this number, with the constructor of its own number.
+fn variety(alloc: Global, number: u32, mutable: bool) -> Result<Variety, Memory> {
     let mut cons = Items::new(alloc);
     cons.push(number)?;
     Ok(Variety {
@@ -22,19 +20,14 @@ fn variety(alloc: Global, number: u32) -> Result<Variety, Memory> {
             line: number,
             col: 1,
         },
-        mutable: number == LENGTH - 1,
+        mutable,
         adopts: None,
         cons,
     })
 }
 
-// Its constructor, with one field that holds the next data type, or in the last a number.
-fn con(alloc: Global, number: u32) -> Result<Con, Memory> {
-    let ty = if number < LENGTH - 1 {
-        Ty::Named(number + 1)
-    } else {
-        Ty::Int
-    };
+// Its constructor, with one field of this type.
+fn con(alloc: Global, number: u32, ty: Ty) -> Result<Con, Memory> {
     let mut fields = Items::new(alloc);
     fields.push(Field {
         name: Items::new(alloc),
@@ -47,12 +40,16 @@ fn con(alloc: Global, number: u32) -> Result<Con, Memory> {
     })
 }
 
-fn chain(alloc: Global) -> Result<Program, Memory> {
+// Each data type holds the next, and the last is mutable and holds a number.
+fn chain(alloc: Global, length: u32) -> Result<Program, Memory> {
     let mut varieties = Items::new(alloc);
     let mut cons = Items::new(alloc);
-    for number in 0..LENGTH {
-        varieties.push(variety(alloc, number)?)?;
-        cons.push(con(alloc, number)?)?;
+    for number in 0..length {
+        let next = number + 1;
+        let last = next == length;
+        let ty = if last { Ty::Int } else { Ty::Named(next) };
+        varieties.push(variety(alloc, number, last)?)?;
+        cons.push(con(alloc, number, ty)?)?;
     }
     Ok(Program {
         varieties,
@@ -64,8 +61,8 @@ fn chain(alloc: Global) -> Result<Program, Memory> {
 }
 
 // Whether the first data type of the chain is affine; None where it isn't well formed.
-fn first_is_affine(alloc: Global) -> Result<Option<bool>, Memory> {
-    let program = chain(alloc)?;
+fn first_is_affine(alloc: Global, length: u32) -> Result<Option<bool>, Memory> {
+    let program = chain(alloc, length)?;
     if !is_numbered(&program) {
         return Ok(None);
     }
@@ -81,8 +78,22 @@ fn first_is_affine(alloc: Global) -> Result<Option<bool>, Memory> {
     }
 }
 
+// The length that the words ask for.
+fn length(rt: &HostRuntime) -> u32 {
+    match env::args(rt) {
+        Ok(mut words) => {
+            if words.any(|word| word.as_str() == "half") {
+                500
+            } else {
+                1000
+            }
+        }
+        Err(_) => 1000,
+    }
+}
+
 fn main(rt: HostRuntime) -> ExitCode {
-    let text = match first_is_affine(rt.alloc()) {
+    let text = match first_is_affine(rt.alloc(), length(&rt)) {
         Ok(Some(true)) => "affine",
         Ok(Some(false)) => "duplicable",
         Ok(None) => "not well formed",

@@ -1,5 +1,5 @@
 //! The program `mezzo`: it makes the standard source and sink and the open gate, calls [`mz_cli::mezzo`], and ends with
-//! the number of its status. All that it does is said by that call's contract.
+//! the number of its status. What that call does is said by its contract; only the words are read here.
 #![tactic(auto)]
 
 use mz_base::{OpenGate, StdSink, StdSource};

@@ -32,8 +32,8 @@ impl From<Memory> for DeclFault {
 }
 
 /// The declarations of a program, or the first place at which an `adopts` stands on an immutable data type or on a
-/// structural type of an immutable constructor. The program keeps to the limits of the language, and each of its
-/// constructors belongs to one of its data types.
+/// structural type of an immutable constructor. The program has at most 1,000 data types, constructors and signatures
+/// each, and each of its constructors belongs to one of its data types.
 pub fn well_formed(alloc: Global, program: &Program) -> Result<Decls, DeclFault>
     requires numbered { IsNumbered (plain_program program.now) }
     ensures { Forms (plain_program program.now) result }

@@ -8,8 +8,8 @@ use crate::{ModeFault, Modes};
 use mz_decl::Decls;
 use std::alloc::Global;
 
-/// The modes of declarations, or the first place at which an `adopts` names an immutable data type. Its time is at
-/// most the number of data types times the number of fields.
+/// The modes of declarations, or the first place at which an `adopts` names an immutable data type. It goes through all
+/// constructors once more for each data type that it marks, at most.
 pub fn modes(alloc: Global, decls: &Decls) -> Result<Modes, ModeFault>
     ensures { Makes (plain_decls decls.now) result }
 {

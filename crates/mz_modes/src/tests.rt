@@ -84,20 +84,41 @@ fn declared(
     })
 }
 
-// 0 is a mutable cell, 1 a list of itself, 2 holds 3, 3 holds a cell's block, 4 a held lock, 5 a lock over a cell
+// a constructor without fields
+fn empty(alloc: Global, variety: u32) -> Con {
+    Con {
+        name: Items::new(alloc),
+        variety,
+        fields: Items::new(alloc),
+    }
+}
+
+// 0 is a mutable cell, 1 a list of integers, 2 holds 3, 3 holds a cell's block, 4 a held lock, 5 a lock over a cell, and 6
+// has an empty constructor and one that holds a cell
 fn kinds(alloc: Global) -> Result<Program, Memory> {
     let mut varieties = Items::new(alloc);
     varieties.push(variety(alloc, 1, true, None, 0)?)?;
-    for k in 1..6 {
+    for k in 1..7 {
         varieties.push(variety(alloc, 2, false, None, k)?)?;
     }
     let mut cons = Items::new(alloc);
     cons.push(con(alloc, 0, Ty::Int)?)?;
-    cons.push(con(alloc, 1, Ty::Named(1))?)?;
+    let mut list = con(alloc, 1, Ty::Int)?;
+    list.fields.push(Field {
+        name: Items::new(alloc),
+        content: Atom::Has {
+            name: 1,
+            ty: Ty::Named(1),
+        },
+    })?;
+    cons.push(list)?;
     cons.push(con(alloc, 2, Ty::Named(3))?)?;
     cons.push(con(alloc, 3, block(alloc, 0))?)?;
     cons.push(con(alloc, 4, Ty::Locked)?)?;
     cons.push(con(alloc, 5, lock(alloc)?)?)?;
+    cons.push(empty(alloc, 6))?;
+    cons.push(con(alloc, 6, Ty::Named(0))?)?;
+    cons.push(empty(alloc, 1))?;
     declared(alloc, varieties, cons, Items::new(alloc))
 }
 
@@ -129,11 +150,12 @@ fn data_types_have_modes(rt: HostRuntime) -> Result<(), Fail> {
         None => assert!(rt; false, "modes"),
         Some(modes) => {
             assert!(rt; is(&modes, Ty::Named(0), false, true), "mutable");
-            assert!(rt; is(&modes, Ty::Named(1), true, false), "of itself");
+            assert!(rt; is(&modes, Ty::Named(1), true, false), "a list of integers");
             assert!(rt; is(&modes, Ty::Named(2), false, false), "two types deep");
             assert!(rt; is(&modes, Ty::Named(3), false, false), "of a block");
             assert!(rt; is(&modes, Ty::Named(4), false, false), "of a held lock");
             assert!(rt; is(&modes, Ty::Named(5), true, false), "of a lock");
+            assert!(rt; is(&modes, Ty::Named(6), false, false), "by its second");
         }
     }
     Ok(())
@@ -148,11 +170,15 @@ fn other_types_have_modes(rt: HostRuntime) -> Result<(), Fail> {
         None => assert!(rt; false, "modes"),
         Some(modes) => {
             assert!(rt; is(&modes, Ty::Int, true, false), "int");
+            assert!(rt; is(&modes, Ty::Unknown, true, false), "unknown");
+            assert!(rt; is(&modes, Ty::Function(0), true, false), "function");
             assert!(rt; is(&modes, Ty::Dynamic, true, false), "dynamic");
             assert!(rt; is(&modes, Ty::Locked, false, false), "locked");
             assert!(rt; is(&modes, block(alloc, 0), false, true), "mutable");
             assert!(rt; is(&modes, block(alloc, 3), true, false), "immutable");
             assert!(rt; is(&modes, guard, true, false), "lock");
+            let equation = Atom::Same { left: 0, right: 1 };
+            assert!(rt; modes.duplicable(&equation), "equation");
         }
     }
     Ok(())
@@ -214,6 +240,16 @@ fn the_first_adopts_on_what_is_immutable_is_refused(rt: HostRuntime) -> Result<(
     assert!(rt;
         on_immutable(alloc, &data) == Some(place(2, 6)),
         "data type"
+    );
+    let itself = adopting(alloc, Some(0), None, &[])?;
+    assert!(rt;
+        on_immutable(alloc, &itself) == Some(place(2, 6)),
+        "of itself"
+    );
+    let later = adopting(alloc, Some(1), None, &[(place(1, 1), 1, 0)])?;
+    assert!(rt;
+        on_immutable(alloc, &later) == Some(place(2, 6)),
+        "before the other"
     );
     let field = adopting(alloc, Some(1), None, &[(place(2, 3), 0, 1)])?;
     assert!(rt; on_immutable(alloc, &field) == Some(place(2, 3)), "field");
