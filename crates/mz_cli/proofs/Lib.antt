@@ -13,3 +13,5 @@ mod Runs
 mod Progress
 mod Ready
 mod Outcomes
+mod OneTexts
+mod OneOutcomes

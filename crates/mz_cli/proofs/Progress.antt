@@ -71,7 +71,7 @@ put_keeps heap heap' b con adopter fields n con_is fields_are puts u Cell_kind (
 ]
 
 -- the one field of a new block is a number
-one_field : (values : Environment) (y : ℕ) (n : ℕ) (fields : List Value) → values y ≡ Some (value.Int n) → HaveValues values (y ∷ []) fields → fields ≡ value.Int n ∷ []
+pub one_field : (values : Environment) (y : ℕ) (n : ℕ) (fields : List Value) → values y ≡ Some (value.Int n) → HaveValues values (y ∷ []) fields → fields ≡ value.Int n ∷ []
 one_field values y n fields is (u, others, has, none, split) = split ∙ ap (λ l. u ∷ l) none ∙ ap (λ w. w ∷ []) (some_is (values y) u (value.Int n) has is)
 
 -- a new block of one number
@@ -86,7 +86,7 @@ new_keeps kinds values con names y kind heap heap' v b fields con_is names_are y
     }
 
 -- the fields of a block
-abbrev fields_in : Option Cell → List Value
+abbrev pub fields_in : Option Cell → List Value
 fields_in (Some (cell.Block con adopter fields)) = fields
 fields_in other = []
 
@@ -221,11 +221,11 @@ data IsSound (w : Config) : Type 0 where
   has_stopped : slice_get w.threads 0 ≡ Some Stopped → IsSound w
 
 -- a thread that has ended does not run
-ended_runs : (o : Option Thread) (frames : List Frame) → o ≡ Some Ended → o ≡ Some (Running frames) → ⊥
+pub ended_runs : (o : Option Thread) (frames : List Frame) → o ≡ Some Ended → o ≡ Some (Running frames) → ⊥
 ended_runs o frames this that = cc
 
 -- nor does one that has stopped
-stopped_runs : (o : Option Thread) (frames : List Frame) → o ≡ Some Stopped → o ≡ Some (Running frames) → ⊥
+pub stopped_runs : (o : Option Thread) (frames : List Frame) → o ≡ Some Stopped → o ≡ Some (Running frames) → ⊥
 stopped_runs o frames this that = cc
 
 -- a next command of a fit thread goes by the kinds

@@ -9,3 +9,5 @@ pub mod Reads
 pub mod Numbers
 pub mod Outcome
 pub mod Answered
+pub mod OneProgram
+pub mod OneOutcome

@@ -3,7 +3,8 @@
 //! It stands on `specs/Outcome.antt`, which says by cases on the status why it comes and what is written, and through it on
 //! the tokens of a text, the grammar of the first form, its flat program (`specs/Flattening.antt`) and the named machine
 //! (`specs/Machine.antt`). The promise of `mezzo` is that what is written is the prints of a run of the program that the
-//! source is a text of, that no run of it is ever wrong, and that each other answer has its cause.
+//! source is a text of, that no run of it is ever wrong, and that each other answer has its cause. Two laws add that a
+//! text has at most one program, and that all runs of its `main` that come to an end or a stop come to the same.
 //!
 //! Design choices: the whole text is made before its first byte is written; the reader, the flattening and the run are
 //! private modules, each with a contract that speaks of plain values, so that they can move to crates of their own.
@@ -12,6 +13,7 @@
 mod first;
 mod flatten;
 mod form;
+mod laws;
 mod machine;
 mod read;
 mod run;
@@ -19,6 +21,7 @@ mod status;
 mod text;
 mod top;
 
+pub use laws::{at_most_one_outcome, at_most_one_program};
 pub use status::Status;
 pub use top::{mezzo, mezzo_plain};
 

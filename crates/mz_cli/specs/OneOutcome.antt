@@ -1,0 +1,20 @@
+-- All runs of a program of the first form come to the same, whatever names their new blocks take.
+use Rattle.std.specs.Prelude.{◌≡◌, ℕ, List}
+use Rattle.mz_tree.specs.declared.types.Place.{Place}
+use Rattle.mz_tree.specs.Code.{Body}
+use Rattle.mz_tree.specs.Programs.{Program}
+use Rattle.mz_cli.specs.Machine.{Config, LeadsTo, HasEnded, StopsAt}
+use Rattle.mz_cli.specs.Reads.{ReadsFirst, IsMain}
+
+-- thread 0 comes to the same in both
+pub record ComeToOne (w v : Config) : Type 0 where
+  -- where it has ended in both, the prints are the same
+  pub ends : HasEnded w 0 → HasEnded v 0 → w.prints ≡ v.prints
+  -- where it has ended in one, it doesn't stop in the other
+  pub no_stop : (place : Place) → HasEnded w 0 → StopsAt v 0 place → ⊥
+  -- where it stops in both, it stops at one place with the same prints
+  pub stops : (place other : Place) → StopsAt w 0 place → StopsAt v 0 other → (place ≡ other) × (w.prints ≡ v.prints)
+
+-- any two runs of `main` come to the same
+abbrev pub AtMostOneOutcome : Type 0
+AtMostOneOutcome = (bytes : List ℕ) (program : Program) (body : Body) (w v : Config) → ReadsFirst bytes program → IsMain program body → LeadsTo body w → LeadsTo body v → ComeToOne w v
