@@ -1,0 +1,5 @@
+pub mod Lists
+pub mod Orders
+pub mod Taking
+pub mod Locks
+pub mod Labelling
