@@ -3,3 +3,4 @@ pub mod Orders
 pub mod Taking
 pub mod Locks
 pub mod Labelling
+pub mod Remaining
