@@ -1,0 +1,12 @@
+pub mod Lists
+pub mod Spending
+pub mod Leading
+pub mod Views
+pub mod Made
+pub mod Passing
+pub mod Loops
+pub mod FunParts
+pub mod WholePrograms
+pub mod Steadiness
+pub mod OnePoint
+pub mod Signing

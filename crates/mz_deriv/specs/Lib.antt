@@ -1,0 +1,9 @@
+pub mod Scripts
+pub mod View
+pub mod Kinds
+pub mod Walks
+pub mod Spelled
+pub mod Derivable
+pub mod Refused
+pub mod Laws
+pub mod Parts
