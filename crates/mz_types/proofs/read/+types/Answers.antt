@@ -1,0 +1,14 @@
+use Rattle.std.proofs.Common.{◌≡◌, true, suc, length, ◌-◌, ◌+◌, sym, ◌∙◌, arith, rules}
+use Rattle.mz_grammar.specs.Answers.{begin}
+use Rattle.mz_grammar.proofs.Loops.{many_more}
+use Rattle.mz_types.specs.Words.{mark}
+use Rattle.mz_types.specs.Reading.{next_atom_by, below}
+use Rattle.mz_types.proofs.read.+types.Goals as goal
+
+-- the loop goes on with one more
+pub next_atoms-loop-i-preserved : goal.next_atoms-loop-i-preserved
+next_atoms-loop-i-preserved t c =
+    let next : begin (mark 9) c.loop-i.rest.now ≡ true = search rules in
+    let more = many_more (mark 9) (next_atom_by c.args.result_stands (below c.args.result_stands (suc c.args.depth))) c.loop-i.items (length c.args.tokens.now - c.loop-i.i) (length c.args.tokens.now - (c.loop-i.i + 1)) c.loop-i.rest.now
+    c.in_ok-item.more.now c.in_ok-item.item next c.in_ok-item.ensures (omega arith) in
+    rw c.in_ok-push.ensures.ok (sym more ∙ c.loop-i.invariant)
