@@ -1,0 +1,9 @@
+use Rattle.std.proofs.Common.{◌≡◌, length, ◌-◌}
+use Rattle.mz_grammar.specs.Reading.{many_at}
+use Rattle.mz_grammar.proofs.Loops.{with_front}
+use Rattle.mz_parse.specs.DeclarationReading.{declaration_by, declaring}
+use Rattle.mz_parse.proofs.declarations.declarations.Given as goal
+
+-- the declarations so far, before what the reader on lists still reads, are what it reads in all
+abbrev pub invariant-loop-i : goal.invariant-loop-i
+invariant-loop-i l = with_front l.items (many_at declaring (declaration_by l.depth) (length l.tokens - l.i) l.rest) ≡ many_at declaring (declaration_by l.depth) (length l.tokens) l.tokens
