@@ -13,6 +13,12 @@ none_some o x nothing something = cc
 pub some_is : {X : Type 0} (o : Option X) (x y : X) → o ≡ Some x → o ≡ Some y → x ≡ y
 some_is o x y this that = cc
 
+-- what stood stays where more follow
+pub stays : {X : Type 0} (xs : List X) (more : List X) (i : ℕ) (x : X) → slice_get xs i ≡ Some x → slice_get (xs ++ more) i ≡ Some x
+stays [] more i x here = cc
+stays (y ∷ xs) more zero x here = here
+stays (y ∷ xs) more (suc i) x here = stays xs more i x here
+
 pub set_here : {X : Type 0} (xs : List X) (b : ℕ) (x y : X) → slice_get xs b ≡ Some y → slice_get (slice_set xs b x) b ≡ Some x
 set_here [] b x y h = cc
 set_here (z ∷ xs) zero x y h = refl

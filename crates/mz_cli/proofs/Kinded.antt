@@ -1,9 +1,9 @@
--- The flat body of a tree of the first form goes by kinds: item after item, each name of the scope stands for a block.
-use Rattle.std.proofs.Common.{◌≡◌, ◌⊎◌, inl, inr, ℕ, zero, suc, ◌+◌, List, [], ◌∷◌, ◌++◌, length, slice_get, Option, Some, None, Bool, true, false, nat_le, refl, sym, ap, subst, ◌∙◌, arith, length-append, if◌then◌else◌}
+-- The flat program of a tree of the first form is one of cells: item after item, each name of the scope stands for a block.
+use Rattle.std.proofs.Common.{◌≡◌, ◌⊎◌, inl, inr, ℕ, ◌+◌, List, [], ◌∷◌, ◌++◌, length, slice_get, Option, Some, None, Bool, true, false, nat_le, refl, sym, ap, subst, arith, length-append, if◌then◌else◌}
 use Rattle.std.specs.Str.{bytes_eq}
 use Rattle.mz_tree.specs.declared.types.Place.{Place}
-use Rattle.mz_tree.specs.Code.{Unit_op, Arith_op, New_op, Read_op, Write_op, Command, The_command, Body}
-use Rattle.mz_tree.specs.Programs.{Fun, Program}
+use Rattle.mz_tree.specs.Code.{Unit_op, Arith_op, New_op, Read_op, Write_op, Command, The_command}
+use Rattle.mz_tree.specs.Programs.{Program}
 use Rattle.mz_tree.proofs.Chains.{list_of_commands}
 use Rattle.mz_tree.specs.declared.code.Arith.TheVariants.{Add}
 use Rattle.mz_token.specs.Tokens.{text_of}
@@ -15,16 +15,11 @@ use Rattle.mz_cli.specs.declared.form.Item.{Item}
 use Rattle.mz_cli.specs.declared.form.Item.TheVariants.{Let, Write, Print}
 use Rattle.mz_cli.specs.declared.form.Form.{Form}
 use Rattle.mz_cli.specs.Flattening.{Scope, ◌>>=◌, only_if, lookup, sum_size, sum_value, sum_in, item_size, scope_after, part_command, more_commands, sum_commands, item_command, item_commands, items_commands, all_items, gives_value, closed, main_of, all_spelling, all_commands, named_well, program_with, program_of}
-use Rattle.mz_cli.specs.Reads.{IsMain}
-use Rattle.mz_cli.proofs.NameKinds.{NameKind, Int_kind, Cell_kind, Kinds, Gives, AllGive, IsKinded}
+use Rattle.mz_cli.proofs.Heaps.{stays}
+use Rattle.mz_cli.proofs.NameKinds.{NameKind, Int_kind, Unit_kind, Cell_kind, Kinds, Gives, AllGive}
+use Rattle.mz_cli.proofs.Cells.{CellNames, IsOfCells}
 
 -- ---- lists of kinds
-
--- what stood stays where more follow
-stays : {X : Type 0} (xs : List X) (more : List X) (i : ℕ) (x : X) → slice_get xs i ≡ Some x → slice_get (xs ++ more) i ≡ Some x
-stays [] more i x here = cc
-stays (y ∷ xs) more zero x here = here
-stays (y ∷ xs) more (suc i) x here = stays xs more i x here
 
 -- the last stands at the end
 at_end : {X : Type 0} (xs : List X) (x : X) (i : ℕ) → i ≡ length xs → slice_get (xs ++ x ∷ []) i ≡ Some x
@@ -171,9 +166,9 @@ module _ (bytes con field : List ℕ) where
   -- ---- items
 
   write_kind : (kinds : Kinds) (value : ℕ) (b : Bool) (found : Option ℕ) (place : Place) (c : Command) → slice_get kinds value ≡ Some Int_kind → ((x : ℕ) → found ≡ Some x → slice_get kinds x ≡ Some Cell_kind)
-      → only_if b (found >>= λ x. Some (The_command (length kinds) (Write_op x 0 0 value) place)) ≡ Some c → GivesAt kinds c Int_kind
+      → only_if b (found >>= λ x. Some (The_command (length kinds) (Write_op x 0 0 value) place)) ≡ Some c → GivesAt kinds c Unit_kind
   write_kind kinds value true None place c int fits is = cc
-  write_kind kinds value true (Some x) place c int fits is = subst (λ c. GivesAt kinds c Int_kind) (some_is is) (refl, (refl, refl, fits x refl, int, refl))
+  write_kind kinds value true (Some x) place c int fits is = subst (λ c. GivesAt kinds c Unit_kind) (some_is is) (refl, (refl, refl, fits x refl, int, refl))
   write_kind kinds value false found place c int fits is = cc
 
   -- the last command of an item makes a block, and a `let` binds its name to it, or gives `()`
@@ -186,14 +181,14 @@ module _ (bytes con field : List ℕ) where
     fits_bound (kinds ++ Cell_kind ∷ []) scope (text_of bytes name) (first + sum_size sum.plus) (fits_more kinds (Cell_kind ∷ []) scope fits) (at_end kinds Cell_kind (first + sum_size sum.plus) (sym long)),
   )
   last_kind scope kinds first value (Write block part arrow sum) c fits int long is = (
-    Int_kind,
+    Unit_kind,
     write_kind kinds value _ (lookup scope (text_of bytes block)) arrow.place c int (fits (text_of bytes block)) is,
-    fits_more kinds (Int_kind ∷ []) scope fits,
+    fits_more kinds (Unit_kind ∷ []) scope fits,
   )
   last_kind scope kinds first value (Print word sum) c fits int long is = (
-    Int_kind,
-    subst (λ c. GivesAt kinds c Int_kind) (some_is is) (refl, (int, refl)),
-    fits_more kinds (Int_kind ∷ []) scope fits,
+    Unit_kind,
+    subst (λ c. GivesAt kinds c Unit_kind) (some_is is) (refl, (int, refl)),
+    fits_more kinds (Unit_kind ∷ []) scope fits,
   )
 
   item_kind : (scope : Scope) (kinds : Kinds) (item : Item) (commands : List Command) → Fits kinds scope → item_commands bytes con field scope (length kinds) item ≡ Some commands
@@ -231,8 +226,8 @@ module _ (bytes con field : List ℕ) where
 closed_kind : (g : Bool) (brace : Place) (commands : List Command) (end : Kinds) → Ends [] commands end → AllGive [] (closed g brace commands)
 closed_kind true brace commands end ends = all_give [] end commands ends
 closed_kind false brace commands end ends =
-    all_give [] (end ++ Int_kind ∷ []) (commands ++ The_command (length commands) Unit_op brace ∷ [])
-    (ends_one [] end commands (The_command (length commands) Unit_op brace) Int_kind ends (omega (arith, ends_length [] end commands ends), refl))
+    all_give [] (end ++ Unit_kind ∷ []) (commands ++ The_command (length commands) Unit_op brace ∷ [])
+    (ends_one [] end commands (The_command (length commands) Unit_op brace) Unit_kind ends (omega (arith, ends_length [] end commands ends), refl))
 
 -- a program of a tree is that of its commands
 program_is : (bytes : List ℕ) (form : Form) (program : Program) → program_of bytes form ≡ Some program → (commands : List Command) × (all_commands bytes form ≡ Some commands) × (program ≡ program_with bytes form commands)
@@ -240,37 +235,20 @@ program_is bytes form program is =
     let all = bind_is (all_commands bytes form) (λ commands. only_if (nat_le (length commands) 256) (Some (program_with bytes form commands))) program (only_is (named_well bytes form) _ program is) in
     (all.0, all.1, sym (some_is (only_is (nat_le (length all.0) 256) (Some (program_with bytes form all.0)) program all.2)))
 
-first_only : {X : Type 0} (x y : X) (i : ℕ) → slice_get (x ∷ []) i ≡ Some y → y ≡ x
-first_only x y zero is = cc
-first_only x y (suc i) is = cc
-
--- its function `main` has these commands
-main_has : (bytes : List ℕ) (form : Form) (program : Program) (commands : List Command) (body : Body) → program ≡ program_with bytes form commands → IsMain program body → body ≡ (main_of form.block.brace.place (all_spelling bytes form) commands).body
-main_has bytes form program commands body is main =
-    let declared : slice_get (main_of form.block.brace.place (all_spelling bytes form) commands ∷ []) main.number ≡ Some main.function = subst (λ p. slice_get p.funs main.number ≡ Some main.function) is main.declared in
-    main.same ∙ ap (λ f. f.body) (first_only (main_of form.block.brace.place (all_spelling bytes form) commands) main.function main.number declared)
-
--- the body of `main` goes by kinds, since each item does
-pub kinded_main : (bytes : List ℕ) (form : Form) (program : Program) (body : Body) → program_of bytes form ≡ Some program → IsMain program body → IsKinded body
-kinded_main bytes form program body is main =
+-- so it is one of cells, since each item goes by kinds
+pub of_cells : (bytes : List ℕ) (form : Form) (program : Program) → program_of bytes form ≡ Some program → IsOfCells program
+of_cells bytes form program is =
     let all = program_is bytes form program is in
     let con = text_of bytes form.declaration.con in
     let field = text_of bytes form.declaration.field in
     let items = bind_is (items_commands bytes con field [] 0 (all_items form.block.items form.block.last)) (λ commands. Some (closed (gives_value form.block.last) form.block.brace.place commands)) all.0 all.1 in
     let ends = items_kind bytes con field (all_items form.block.items form.block.last) [] [] items.0 (λ name x none. cc) items.1 in
     let given : AllGive [] all.0 = subst (λ l. AllGive [] l) (some_is items.2) (closed_kind (gives_value form.block.last) form.block.brace.place items.0 ends.0 ends.1) in
-    subst IsKinded (sym (main_has bytes form program all.0 body all.2 main)) (subst (λ l. AllGive [] l) (sym (list_of_commands all.0)) given)
-
--- the program has a function `main`
-pub has_main : (bytes : List ℕ) (form : Form) (program : Program) → program_of bytes form ≡ Some program → (body : Body) × IsMain program body
-has_main bytes form program is =
-    let all = program_is bytes form program is in
-    let main : Fun = main_of form.block.brace.place (all_spelling bytes form) all.0 in
-    let there : IsMain (program_with bytes form all.0) main.body = record { number = 0; function = main; declared = refl; named = refl; same = refl } in
-    (main.body, subst (λ p. IsMain p main.body) (sym all.2) there)
-
--- and only one
-pub only_main : (bytes : List ℕ) (form : Form) (program : Program) (a b : Body) → program_of bytes form ≡ Some program → IsMain program a → IsMain program b → a ≡ b
-only_main bytes form program a b is one other =
-    let all = program_is bytes form program is in
-    main_has bytes form program all.0 a all.2 one ∙ sym (main_has bytes form program all.0 b all.2 other)
+    let names : CellNames = record { variety = text_of bytes form.declaration.variety; place = form.declaration.variety.place; con = con; field = field; sig = text_of bytes form.sig } in
+    record {
+      names = names;
+      body = (main_of form.block.brace.place (all_spelling bytes form) all.0).body;
+      spelling = all_spelling bytes form;
+      is = all.2;
+      kinded = subst (λ l. AllGive [] l) (sym (list_of_commands all.0)) given;
+    }

@@ -6,7 +6,12 @@ mod WholeForms
 mod Flat
 mod Mains
 mod NameKinds
+mod Cells
 mod Kinded
+mod NumberMaps
+mod Proposed
+mod Known
+mod Derived
 mod Threads
 mod Locks
 mod Runs

@@ -1,9 +1,8 @@
 -- All runs of a body that goes by kinds come to the same. A number belongs to each name: its value, or the number in its
 -- block. Two names never have the same block, so each command changes these numbers in one way, whatever the blocks are;
 -- and so what the rest of the body comes to by its numbers stays what the whole body comes to, step by step.
-use Rattle.std.proofs.Common.{◌≡◌, ◌≢◌, inl, inr, ℕ, ◌+◌, ◌<◌, ◌≤◌, ◌^◌, Bool, true, false, List, [], ◌∷◌, ◌++◌, length, Option, Some, None, cond, eqb, leb, refl, sym, ap, ◌∙◌, subst, slice_get, slice_set, arith}
+use Rattle.std.proofs.Common.{◌≡◌, ◌≢◌, inl, inr, ℕ, ◌+◌, ◌<◌, ◌≤◌, ◌^◌, Bool, true, false, List, [], ◌∷◌, ◌++◌, length, Option, Some, None, cond, leb, refl, sym, ap, ◌∙◌, subst, slice_get, slice_set}
 use Rattle.std.proofs.lemmas.Bool.{cases_eq, le-leb, lt-leb}
-use Rattle.std.proofs.lemmas.Bool.Decides.{nat_tests}
 use Rattle.mz_tree.specs.declared.types.Place.{Place}
 use Rattle.mz_tree.specs.declared.code.Arith.TheVariants.{Add}
 use Rattle.mz_tree.specs.Code.{Op, Int_op, Unit_op, Arith_op, New_op, Read_op, Write_op, Print_op, Command, The_command, Commands, No_commands, More_commands, Body, The_body, commands_in, command_list}
@@ -15,19 +14,13 @@ use Rattle.mz_cli.specs.Machine.{Environment, Heap, Frame, Thread, Running, Ende
 use Rattle.mz_cli.specs.OneOutcome.{ComeToOne, AtMostOneOutcome}
 use Rattle.mz_cli.proofs.Heaps.{none_some, some_is, set_here, end_here, end_there}
 use Rattle.mz_cli.proofs.Threads.{frame_in, frames_in}
-use Rattle.mz_cli.proofs.NameKinds.{NameKind, Int_kind, Cell_kind, Kinds, Gives, AllGive, IsKinded}
-use Rattle.mz_cli.proofs.Kinded.{kinded_main}
+use Rattle.mz_cli.proofs.NameKinds.{NameKind, Int_kind, Unit_kind, Cell_kind, Kinds, Gives, AllGive, IsKinded}
+use Rattle.mz_cli.proofs.NumberMaps.{Numbers, put_number, number_here, number_there}
+use Rattle.mz_cli.proofs.Cells.{kinded_main}
+use Rattle.mz_cli.proofs.Kinded.{of_cells}
 use Rattle.mz_cli.proofs.Progress.{fields_in, one_field, ended_runs, stopped_runs}
 
 -- ---- what commands come to, by the numbers of the names
-
--- the number of each name: its value, or the number in its block
-abbrev Numbers : Type 0
-Numbers = ℕ → ℕ
-
--- one name gets a number
-abbrev put_number : Numbers → ℕ → ℕ → Numbers
-put_number numbers k n m = cond (eqb m k) n (numbers m)
 
 -- the numbers after a command with this name
 abbrev after_op : Numbers → ℕ → Op → Numbers
@@ -58,19 +51,12 @@ abbrev comes_to : List Command → Numbers → List ℕ → Outcome
 comes_to [] numbers prints = (None, prints)
 comes_to (The_command to op place ∷ commands) numbers prints = cond (is_past numbers op) (Some place, prints) (comes_to commands (after_op numbers to op) (prints_after numbers op prints))
 
--- there it is
-number_here : (f : Numbers) (k n m : ℕ) → m ≡ k → put_number f k n m ≡ n
-number_here f k n m same = grind (arith, nat_tests)
-
--- elsewhere the numbers stay
-number_there : (f : Numbers) (k n m : ℕ) → m ≢ k → put_number f k n m ≡ f m
-number_there f k n m differ = grind (arith, nat_tests)
-
 -- ---- values with their numbers
 
 -- a value of this kind with this number
 abbrev IsNumber : Heap → Value → NameKind → ℕ → Type 0
 IsNumber heap v Int_kind n = v ≡ value.Int n
+IsNumber heap v Unit_kind n = v ≡ value.Int n
 IsNumber heap v Cell_kind n = (b : ℕ) × (adopter : Option ℕ) × (v ≡ value.Block b) × (heap.at b ≡ Some (cell.Block 0 adopter (value.Int n ∷ [])))
 
 -- each name that has a kind has a value of it with its number
@@ -159,6 +145,7 @@ fresh_fine kinds numbers values heap heap' b c fine free puts = record {
   where
     keeps : (k : NameKind) (v : Value) (n : ℕ) → IsNumber heap v k n → IsNumber heap' v k n
     keeps Int_kind v n is = is
+    keeps Unit_kind v n is = is
     keeps Cell_kind v n (b', adopter, is, there) =
         (b', adopter, is, puts.others b' (λ same. none_some (heap.at b) (cell.Block 0 adopter (value.Int n ∷ [])) free (ap heap.at (sym same) ∙ there)) ∙ there)
 
@@ -183,6 +170,7 @@ write_fine kinds numbers values heap heap' name b adopter n fine kind_is named p
   where
     keeps : (x : ℕ) → x ≢ name → (k : NameKind) (v : Value) (m : ℕ) → values x ≡ Some v → IsNumber heap v k m → IsNumber heap' v k m
     keeps x differ Int_kind v m has is = is
+    keeps x differ Unit_kind v m has is = is
     keeps x differ Cell_kind v m has (b', other, is, there) =
         (b', other, is, puts.others b' (λ same. differ (fine.apart x name b (has ∙ ap Some (is ∙ ap value.Block same)) named)) ∙ there)
 
@@ -194,12 +182,12 @@ record Moved (kinds : Kinds) (kind : NameKind) (numbers : Numbers) (to : ℕ) (o
   fine : Fine (kinds ++ kind ∷ []) (after_op numbers to op) values' heap'
   printed : prints' ≡ prints_after numbers op prints
 
--- a number is bound, and the heap stays
-int_fine : (kinds : Kinds) (kind : NameKind) (numbers : Numbers) (n : ℕ) (values values' : Environment) (heap heap' : Heap) (to : ℕ) (v : Value) → Fine kinds numbers values heap → heap' ≡ heap → kind ≡ Int_kind → v ≡ value.Int n → to ≡ length kinds → Puts values to v values'
+-- a number, or `()`, is bound, and the heap stays
+int_fine : (kinds : Kinds) (kind k : NameKind) (numbers : Numbers) (n : ℕ) (values values' : Environment) (heap heap' : Heap) (to : ℕ) (v : Value) → Fine kinds numbers values heap → heap' ≡ heap → kind ≡ k → IsNumber heap v k n → v ≡ value.Int n → to ≡ length kinds → Puts values to v values'
     → Fine (kinds ++ kind ∷ []) (put_number numbers to n) values' heap'
-int_fine kinds kind numbers n values values' heap heap' to v fine same kind_is is to_is puts =
+int_fine kinds kind k numbers n values values' heap heap' to v fine same kind_is number is to_is puts =
     subst (λ h. Fine (kinds ++ kind ∷ []) (put_number numbers to n) values' h) (sym same)
-    (bind_fine kinds kind numbers n values values' heap to v fine (subst (λ k. IsNumber heap v k n) (sym kind_is) is) (int_new values heap v n is) to_is puts)
+    (bind_fine kinds kind numbers n values values' heap to v fine (subst (λ k. IsNumber heap v k n) (sym kind_is) number) (int_new values heap v n is) to_is puts)
 
 -- a name that is a block has its number in its one field
 cell_is : (kinds : Kinds) (numbers : Numbers) (values : Environment) (heap : Heap) (name con b : ℕ) (adopter : Option ℕ) (fields : List Value) → Have kinds numbers values heap → slice_get kinds name ≡ Some Cell_kind → IsBlock heap values name con b adopter fields
@@ -228,16 +216,16 @@ new_fine kinds kind numbers con y values values' heap heap' to v b fields fine c
 does_moved : (kinds : Kinds) (numbers : Numbers) (values values' : Environment) (to : ℕ) (op : Op) (kind : NameKind) (heap : Heap) (prints : List ℕ) (v : Value) (heap' : Heap) (prints' : List ℕ) → Gives kinds op kind → Fine kinds numbers values heap → Does values op heap prints v heap' prints'
     → to ≡ length kinds → Puts values to v values' → Moved kinds kind numbers to op values' heap' prints prints'
 does_moved kinds numbers values values' to (Int_op n) kind heap prints v heap' prints' gives fine (is, same, more) to_is puts =
-    record { within = refl; fine = int_fine kinds kind numbers n values values' heap heap' to v fine same gives is to_is puts; printed = more }
+    record { within = refl; fine = int_fine kinds kind Int_kind numbers n values values' heap heap' to v fine same gives is is to_is puts; printed = more }
 does_moved kinds numbers values values' to Unit_op kind heap prints v heap' prints' gives fine (is, same, more) to_is puts =
-    record { within = refl; fine = int_fine kinds kind numbers 0 values values' heap heap' to v fine same gives is to_is puts; printed = more }
+    record { within = refl; fine = int_fine kinds kind Unit_kind numbers 0 values values' heap heap' to v fine same gives is is to_is puts; printed = more }
 does_moved kinds numbers values values' to (Arith_op Add left right) kind heap prints v heap' prints' (l_is, r_is, kind_is) fine (a, b, l, r, fits, is, same, more) to_is puts =
     let a_is : a ≡ numbers left = same_int (values left) a (numbers left) l (int_is kinds numbers values heap left fine.have l_is) in
     let b_is : b ≡ numbers right = same_int (values right) b (numbers right) r (int_is kinds numbers values heap right fine.have r_is) in
     let sum_is : a + b ≡ numbers left + numbers right = ap (λ n. n + b) a_is ∙ ap (λ n. numbers left + n) b_is in
     record {
       within = lt-leb (2 ^ 64) (numbers left + numbers right) (subst (λ n. n < 2 ^ 64) sum_is fits);
-      fine = int_fine kinds kind numbers (numbers left + numbers right) values values' heap heap' to v fine same kind_is (is ∙ ap value.Int sum_is) to_is puts;
+      fine = int_fine kinds kind Int_kind numbers (numbers left + numbers right) values values' heap heap' to v fine same kind_is (is ∙ ap value.Int sum_is) (is ∙ ap value.Int sum_is) to_is puts;
       printed = more;
     }
 does_moved kinds numbers values values' to (New_op con names) kind heap prints v heap' prints' (con_is, (y, names_are, y_is), kind_is) fine (b, fields, given, free, puts, is, more) to_is bound =
@@ -249,7 +237,8 @@ does_moved kinds numbers values values' to (New_op con names) kind heap prints v
 does_moved kinds numbers values values' to (Read_op name con field) kind heap prints v heap' prints' (con_is, field_is, name_is, kind_is) fine (b, adopter, fields, block, got, same, more) to_is puts =
     let all = cell_is kinds numbers values heap name con b adopter fields fine.have name_is block in
     let first : slice_get fields field ≡ Some (value.Int (numbers name)) = ap (λ l. slice_get l field) all ∙ ap (λ i. slice_get (value.Int (numbers name) ∷ []) i) field_is in
-    record { within = refl; fine = int_fine kinds kind numbers (numbers name) values values' heap heap' to v fine same kind_is (some_is (slice_get fields field) v (value.Int (numbers name)) got first) to_is puts; printed = more }
+    let is : v ≡ value.Int (numbers name) = some_is (slice_get fields field) v (value.Int (numbers name)) got first in
+    record { within = refl; fine = int_fine kinds kind Int_kind numbers (numbers name) values values' heap heap' to v fine same kind_is is is to_is puts; printed = more }
 does_moved kinds numbers values values' to (Write_op name con field source) kind heap prints v heap' prints' (con_is, field_is, name_is, source_is, kind_is) fine (b, adopter, fields, new, block, fits, new_is, puts, is, more) to_is bound =
     let all = cell_is kinds numbers values heap name con b adopter fields fine.have name_is block in
     let n : ℕ = numbers source in
@@ -257,10 +246,10 @@ does_moved kinds numbers values values' to (Write_op name con field source) kind
     let set : slice_set fields field new ≡ value.Int n ∷ [] = ap (λ l. slice_set l field new) all ∙ ap (λ i. slice_set (value.Int (numbers name) ∷ []) i new) field_is ∙ ap (λ w. w ∷ []) new_int in
     let cell_set : cell.Block con adopter (slice_set fields field new) ≡ cell.Block 0 adopter (value.Int n ∷ []) = ap (λ k. cell.Block k adopter (slice_set fields field new)) con_is ∙ ap (λ fs. cell.Block 0 adopter fs) set in
     let written : Fine kinds (put_number numbers name n) values heap' = write_fine kinds numbers values heap heap' name b adopter n fine name_is block.named (subst (λ c. Puts heap.at b c heap'.at) cell_set puts) in
-    record { within = refl; fine = int_fine kinds kind (put_number numbers name n) 0 values values' heap' heap' to v written refl kind_is is to_is bound; printed = more }
+    record { within = refl; fine = int_fine kinds kind Unit_kind (put_number numbers name n) 0 values values' heap' heap' to v written refl kind_is is is to_is bound; printed = more }
 does_moved kinds numbers values values' to (Print_op name) kind heap prints v heap' prints' (name_is, kind_is) fine (n, has, is, same, more) to_is puts =
     let n_is : n ≡ numbers name = same_int (values name) n (numbers name) has (int_is kinds numbers values heap name fine.have name_is) in
-    record { within = refl; fine = int_fine kinds kind numbers 0 values values' heap heap' to v fine same kind_is is to_is puts; printed = more ∙ ap (λ m. prints ++ m ∷ []) n_is }
+    record { within = refl; fine = int_fine kinds kind Unit_kind numbers 0 values values' heap heap' to v fine same kind_is is is to_is puts; printed = more ∙ ap (λ m. prints ++ m ∷ []) n_is }
 does_moved kinds numbers values values' to _ kind heap prints v heap' prints' gives fine does to_is puts = absurd gives
 
 -- a command that stops the thread is a sum past the largest number
@@ -405,5 +394,5 @@ come_to_one outcome w v one other = record {
 -- all runs of a `main` of the first form come to the same, since its body goes by kinds
 pub one_outcome : AtMostOneOutcome
 one_outcome bytes program body w v reads main one other =
-    let kinded : IsKinded body = kinded_main bytes reads.form program body reads.flat main in
+    let kinded : IsKinded body = kinded_main program body (of_cells bytes reads.form program reads.flat) main in
     come_to_one (comes_to (commands_in body) (λ name. 0) []) w v (run_comes body w kinded one) (run_comes body v kinded other)

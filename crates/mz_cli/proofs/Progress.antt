@@ -15,13 +15,14 @@ use Rattle.mz_cli.specs.Machine.{Environment, Heap, Frame, Thread, Running, Ende
 use Rattle.mz_cli.specs.Running.{IsNumbered}
 use Rattle.mz_cli.proofs.Heaps.{none_some, some_is, set_here, end_here, end_there}
 use Rattle.mz_cli.proofs.Threads.{frame_in, frames_in}
-use Rattle.mz_cli.proofs.NameKinds.{NameKind, Int_kind, Cell_kind, Kinds, Gives, AllGive, IsKinded}
+use Rattle.mz_cli.proofs.NameKinds.{NameKind, Int_kind, Unit_kind, Cell_kind, Kinds, Gives, AllGive, IsKinded}
 
 -- ---- values of kinds
 
 -- a value of this kind
 abbrev pub IsOfKind : Heap → Value → NameKind → Type 0
 IsOfKind heap v Int_kind = (n : ℕ) × (v ≡ value.Int n)
+IsOfKind heap v Unit_kind = v ≡ value.Int 0
 IsOfKind heap v Cell_kind = (b : ℕ) × (adopter : Option ℕ) × (n : ℕ) × (v ≡ value.Block b) × (heap.at b ≡ Some (cell.Block 0 adopter (value.Int n ∷ [])))
 
 -- each name that has a kind has a value of it
@@ -54,9 +55,9 @@ record Kept (heap : Heap) (heap' : Heap) (v : Value) (kind : NameKind) : Type 0 
   keeps : (u : Value) (k : NameKind) → IsOfKind heap u k → IsOfKind heap' u k
   is : IsOfKind heap' v kind
 
--- a number, in a heap that stays
-kept_int : (heap : Heap) (heap' : Heap) (v : Value) (kind : NameKind) (n : ℕ) → heap' ≡ heap → kind ≡ Int_kind → v ≡ value.Int n → Kept heap heap' v kind
-kept_int heap heap' v kind n same kind_is is = record { keeps = λ u k h. subst (λ m. IsOfKind m u k) (sym same) h; is = subst (λ k. IsOfKind heap' v k) (sym kind_is) (n, is) }
+-- a value of this kind, in a heap that stays
+kept_in : (heap : Heap) (heap' : Heap) (v : Value) (kind : NameKind) (k : NameKind) → heap' ≡ heap → kind ≡ k → IsOfKind heap' v k → Kept heap heap' v kind
+kept_in heap heap' v kind k same kind_is is = record { keeps = λ u j h. subst (λ m. IsOfKind m u j) (sym same) h; is = subst (λ j. IsOfKind heap' v j) (sym kind_is) is }
 
 -- a block of one number that is put
 is_put : (heap : Heap) (heap' : Heap) (b : ℕ) (con : ℕ) (adopter : Option ℕ) (fields : List Value) (n : ℕ) → con ≡ 0 → fields ≡ value.Int n ∷ [] → Puts heap.at b (cell.Block con adopter fields) heap'.at → heap'.at b ≡ Some (cell.Block 0 adopter (value.Int n ∷ []))
@@ -65,6 +66,7 @@ is_put heap heap' b con adopter fields n con_is fields_are puts = puts.put ∙ a
 -- it keeps the kinds of all values, whatever stood at its name
 put_keeps : (heap : Heap) (heap' : Heap) (b : ℕ) (con : ℕ) (adopter : Option ℕ) (fields : List Value) (n : ℕ) → con ≡ 0 → fields ≡ value.Int n ∷ [] → Puts heap.at b (cell.Block con adopter fields) heap'.at → (u : Value) (k : NameKind) → IsOfKind heap u k → IsOfKind heap' u k
 put_keeps heap heap' b con adopter fields n con_is fields_are puts u Int_kind h = h
+put_keeps heap heap' b con adopter fields n con_is fields_are puts u Unit_kind h = h
 put_keeps heap heap' b con adopter fields n con_is fields_are puts u Cell_kind (b', adopter', n', u_is, there) = elim (cases_eq b' b) [
   | inl same ↦ (b', adopter, n, u_is, ap heap'.at same ∙ is_put heap heap' b con adopter fields n con_is fields_are puts)
   | inr differ ↦ (b', adopter', n', u_is, puts.others b' differ ∙ there)
@@ -102,16 +104,16 @@ fields_are heap values name con b adopter fields block has =
 
 -- each command keeps the kinds, by cases
 does_keeps : (kinds : Kinds) (values : Environment) (op : Op) (kind : NameKind) (heap : Heap) (prints : List ℕ) (v : Value) (heap' : Heap) (prints' : List ℕ) → Gives kinds op kind → HaveKinds kinds values heap → Does values op heap prints v heap' prints' → Kept heap heap' v kind
-does_keeps kinds values (Int_op n) kind heap prints v heap' prints' gives have (is, same, more) = kept_int heap heap' v kind n same gives is
-does_keeps kinds values Unit_op kind heap prints v heap' prints' gives have (is, same, more) = kept_int heap heap' v kind 0 same gives is
-does_keeps kinds values (Arith_op Add left right) kind heap prints v heap' prints' (l_is, r_is, kind_is) have (a, b, l, r, fits, is, same, more) = kept_int heap heap' v kind (a + b) same kind_is is
+does_keeps kinds values (Int_op n) kind heap prints v heap' prints' gives have (is, same, more) = kept_in heap heap' v kind Int_kind same gives (n, is)
+does_keeps kinds values Unit_op kind heap prints v heap' prints' gives have (is, same, more) = kept_in heap heap' v kind Unit_kind same gives is
+does_keeps kinds values (Arith_op Add left right) kind heap prints v heap' prints' (l_is, r_is, kind_is) have (a, b, l, r, fits, is, same, more) = kept_in heap heap' v kind Int_kind same kind_is (a + b, is)
 does_keeps kinds values (New_op con names) kind heap prints v heap' prints' (con_is, one, kind_is) have (b, fields, given, free, puts, is, more) =
     new_keeps kinds values con names one.0 kind heap heap' v b fields con_is one.1 one.2 kind_is have given puts is
 does_keeps kinds values (Read_op name con field) kind heap prints v heap' prints' (con_is, field_is, name_is, kind_is) have (b, adopter, fields, block, got, same, more) =
     let has = cell_at kinds values heap name con have con_is name_is in
     let all = fields_are heap values name con b adopter fields block has in
     let first : slice_get fields field ≡ Some (value.Int has.number) = ap (λ l. slice_get l field) all ∙ ap (λ i. slice_get (value.Int has.number ∷ []) i) field_is in
-    kept_int heap heap' v kind has.number same kind_is (some_is (slice_get fields field) v (value.Int has.number) got first)
+    kept_in heap heap' v kind Int_kind same kind_is (has.number, some_is (slice_get fields field) v (value.Int has.number) got first)
 does_keeps kinds values (Write_op name con field source) kind heap prints v heap' prints' (con_is, field_is, name_is, source_is, kind_is) have (b, adopter, fields, new, block, fits, new_is, puts, is, more) =
     let has = cell_at kinds values heap name con have con_is name_is in
     let all = fields_are heap values name con b adopter fields block has in
@@ -119,9 +121,9 @@ does_keeps kinds values (Write_op name con field source) kind heap prints v heap
     let set : slice_set fields field new ≡ value.Int number.0 ∷ [] = ap (λ l. slice_set l field new) all ∙ ap (λ i. slice_set (value.Int has.number ∷ []) i new) field_is ∙ ap (λ w. w ∷ []) (some_is (values source) new (value.Int number.0) new_is number.1) in
     record {
       keeps = put_keeps heap heap' b con adopter (slice_set fields field new) number.0 con_is set puts;
-      is = subst (λ k. IsOfKind heap' v k) (sym kind_is) (0, is);
+      is = subst (λ k. IsOfKind heap' v k) (sym kind_is) is;
     }
-does_keeps kinds values (Print_op name) kind heap prints v heap' prints' (name_is, kind_is) have (n, has, is, same, more) = kept_int heap heap' v kind 0 same kind_is is
+does_keeps kinds values (Print_op name) kind heap prints v heap' prints' (name_is, kind_is) have (n, has, is, same, more) = kept_in heap heap' v kind Unit_kind same kind_is is
 does_keeps kinds values _ kind heap prints v heap' prints' gives have does = absurd gives
 
 -- the names before keep their kinds, and the new name has its own

@@ -12,7 +12,7 @@ use Rattle.mz_cli.specs.declared.status.Status.TheVariants as status
 use Rattle.mz_cli.specs.Machine.{Config, NeverWrong, LeadsTo, HasEnded, StopsAt}
 use Rattle.mz_cli.specs.Running.{IsNumbered}
 use Rattle.mz_cli.specs.Reads.{ReadsFirst, IsMain}
-use Rattle.mz_cli.specs.Outcome.{print_lines, stop_line}
+use Rattle.mz_cli.specs.Outcome.{IsDerivable, print_lines, stop_line}
 
 -- the program that the bytes are a text of; or there is none
 abbrev pub ReadsOr : List ℕ → Result CodeProgram Refusal → Type 0
@@ -20,12 +20,13 @@ ReadsOr bytes (Ok program) = ReadsFirst bytes (plain_program program)
 ReadsOr bytes (Err Unbuilt) = (program : Program) → ReadsFirst bytes program → ⊥
 ReadsOr bytes (Err Memory) = Unit {0}
 
--- it has a `main`, no run of which is ever wrong, and whose commands are numbered in order
+-- it has a derivation, and a `main`, no run of which is ever wrong, and whose commands are numbered in order
 pub record IsReady (program : Program) : Type 0 where
   pub body : Body
   pub main : IsMain program body
   pub safe : (other : Body) → IsMain program other → NeverWrong other
   pub numbered : (other : Body) → IsMain program other → IsNumbered other
+  pub derivable : IsDerivable program
 
 -- the status and the text of the run of the program's `main`
 abbrev pub RunAnswers : Program → Status → List ℕ → Type 0

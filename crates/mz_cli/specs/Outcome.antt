@@ -6,6 +6,8 @@ use Rattle.mz_base.specs.Told.{Gains, GainsFront}
 use Rattle.mz_tree.specs.declared.types.Place.{Place}
 use Rattle.mz_tree.specs.Code.{Body}
 use Rattle.mz_tree.specs.Programs.{Program}
+use Rattle.mz_deriv.specs.Scripts.{Item}
+use Rattle.mz_deriv.specs.Derivable.{Derivable}
 use Rattle.mz_cli.specs.declared.status.Status.{Status}
 use Rattle.mz_cli.specs.declared.status.Status.TheVariants.{Done, Refused, Usage, Stopped, ReadFault, WriteFault, Memory}
 use Rattle.mz_cli.specs.Machine.{Config, LeadsTo, HasEnded, StopsAt, NeverWrong}
@@ -49,10 +51,16 @@ IsUnbuilt bytes = (length bytes ≤ source_limit) × ((program : Program) → Re
 
 -- ---- runs
 
--- the bytes are within the limit and a text of the first form of this program, and no run of it is ever wrong
+-- the program has a derivation: by the permission rules a script leads through each of its functions
+abbrev pub IsDerivable : Program → Type 0
+IsDerivable program = (scripts : List (List Item)) × Derivable program scripts
+
+-- the bytes are within the limit and a text of the first form of this program, which has a derivation, and no run of it is
+-- ever wrong
 pub record Runs (bytes : List ℕ) (program : Program) (body : Body) : Type 0 where
   pub short : length bytes ≤ source_limit
   pub reads : ReadsFirst bytes program
+  pub derivable : IsDerivable program
   pub main : IsMain program body
   pub safe : NeverWrong body
 

@@ -94,7 +94,8 @@ fn write_out<K: Sink>(sink: &mut K, text: &str, status: Status) -> Status
 /// All that the program does but in the mode `run`, over any source and sink.
 ///
 /// The words are taken where they are the program's name and `sched`. Then the source is read to its end, and a text of
-/// the first form of at most 1,048,576 bytes is run, and its prints are written, each as a line. The answers:
+/// the first form of at most 1,048,576 bytes is run, and its prints are written, each as a line. Each program that is run
+/// has a derivation by the permission rules. The answers:
 ///
 /// - `Done`: the run has ended.
 /// - `Stopped`: the run stopped at an arithmetic command, and the line that tells its place follows the prints.
