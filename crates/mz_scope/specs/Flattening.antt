@@ -1,0 +1,46 @@
+-- The flat program of a source, and all that is wrong with its names and shapes. The program is total: where something is
+-- wrong it is of no use, and it says only where later faults stand.
+use Rattle.std.specs.Prelude.{◌≡◌, ℕ, ◌==◌, ◌&&◌, Bool, true, false, List, [], Option, Some, None, codes, slice_get}
+use Rattle.std.specs.List.{list_any}
+use Rattle.std.specs.Str.{bytes_eq}
+use Rattle.mz_tree.specs.Programs.{Sig, Fun, Program}
+use Rattle.mz_scope.specs.declared.fault.Fault.{Fault}
+use Rattle.mz_scope.specs.Syntax.{Declaration}
+use Rattle.mz_scope.specs.Names.{globals_of}
+use Rattle.mz_scope.specs.Making.{Made, Came, Came_to, nothing_made}
+use Rattle.mz_scope.specs.Declarations.{declarations}
+
+-- what the source comes to
+abbrev pub flattened : List Declaration → Came Program
+flattened tree = declarations (globals_of tree) 0 0 0 0 tree nothing_made
+
+-- the program, with the `adopts` of its structural types
+abbrev pub program_in : Came Program → Program
+program_in (Came_to program made) = record program { clauses = made.clauses }
+
+abbrev pub flat_program : List Declaration → Program
+flat_program tree = program_in (flattened tree)
+
+-- what is wrong, in the order in which it was found
+abbrev pub faults_in : Came Program → List Fault
+faults_in (Came_to program made) = made.faults
+
+abbrev pub faults_of : List Declaration → List Fault
+faults_of tree = faults_in (flattened tree)
+
+-- ---- the function that a program begins with
+
+abbrev pub has_no_param : Option Sig → Bool
+has_no_param None = false
+has_no_param (Some sig) = sig.count == 0
+
+-- whether there is a function `main` whose signature has no parameter
+abbrev pub has_main : Program → Bool
+has_main p = list_any (λ (f : Fun). bytes_eq f.name (codes "main") && has_no_param (slice_get p.sigs f.sig)) p.funs
+
+-- ---- sources without faults
+
+pub record Flattens (tree : List Declaration) (program : Program) : Type 0 where
+  pub clean : faults_of tree ≡ []
+  pub begins : has_main (flat_program tree) ≡ true
+  pub flat : program ≡ flat_program tree
