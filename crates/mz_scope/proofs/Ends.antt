@@ -1,6 +1,5 @@
 -- What the last call of a function leads to, and how whole lists end.
-use Rattle.std.proofs.Common.{◌≡◌, ℕ, ◌+◌, ◌<◌, List, [], ◌∷◌, ◌++◌, length, get_or, drop, map, reverse, Option, None, Some, Result, Ok, Err, option_map, refl, sym, ap, ap₂, ◌∙◌}
-use Rattle.mz_tree.specs.declared.types.Place.{Place}
+use Rattle.std.proofs.Common.{◌≡◌, ℕ, ◌+◌, ◌<◌, List, [], ◌∷◌, ◌++◌, length, get_or, drop, reverse, Option, Result, Ok, Err, sym, ap, ap₂, ◌∙◌}
 use Rattle.mz_tree.specs.declared.alike.Memory.{Memory}
 use Rattle.mz_tree.specs.declared.code.Case.{Case as CodeCase}
 use Rattle.mz_tree.specs.declared.code.Body.{Body as CodeBody}

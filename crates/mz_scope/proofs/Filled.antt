@@ -1,5 +1,5 @@
 -- The tables go on being right as declarations are added to them.
-use Rattle.std.proofs.Common.{◌≡◌, ℕ, ◌+◌, ◌==◌, ◌||◌, not, is_some, Bool, true, false, if◌then◌else◌, List, [], ◌∷◌, ◌++◌, map, length, drop, slice_get, zero, suc, true≢false, Option, Some, None, refl, sym, ap, subst, ◌∙◌, arith, append_assoc, length-append}
+use Rattle.std.proofs.Common.{◌≡◌, ℕ, ◌+◌, ◌==◌, ◌||◌, not, is_some, Bool, true, false, if◌then◌else◌, List, [], ◌∷◌, ◌++◌, map, length, drop, slice_get, zero, suc, true≢false, Option, Some, None, refl, sym, ap, subst, ◌∙◌, arith, length-append}
 use Rattle.std.specs.List.{list_any}
 use Rattle.std.specs.Option.{option_or, option_map, option_and_then}
 use Rattle.std.proofs.lemmas.Bool.{eq-eqb, ne_eqb}
@@ -13,7 +13,6 @@ use Rattle.mz_scope.specs.declared.entries.Param.{Param}
 use Rattle.mz_scope.specs.declared.entries.TypeEntry.{TypeEntry as CodeTypeEntry}
 use Rattle.mz_scope.specs.declared.entries.NamedType.{NamedType}
 use Rattle.mz_scope.specs.declared.entries.TypeTable.{TypeTable}
-use Rattle.mz_scope.specs.declared.name_map.NameMap.{NameMap}
 use Rattle.mz_scope.specs.Names.{Names, find, TypeEntry, ConEntry, con_entry, param_count, sig_of}
 use Rattle.mz_scope.specs.NameMaps.{found, Adds, Maps}
 use Rattle.mz_scope.proofs.Found.{found_through}

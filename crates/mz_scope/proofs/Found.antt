@@ -1,10 +1,10 @@
 -- What the tables have is what the names stand for.
-use Rattle.std.proofs.Common.{◌≡◌, ℕ, zero, suc, ◌+◌, ◌-◌, ◌≤◌, Bool, true, false, cond, if◌then◌else◌, ◌||◌, List, [], ◌∷◌, map, Option, Some, None, is_some, slice_get, refl, sym, ap, subst, ◌∙◌, arith, true≢false}
+use Rattle.std.proofs.Common.{◌≡◌, ℕ, zero, suc, ◌+◌, ◌-◌, ◌≤◌, Bool, true, false, cond, if◌then◌else◌, ◌||◌, List, [], ◌∷◌, map, Option, Some, None, is_some, slice_get, refl, sym, ap, ◌∙◌, arith, true≢false}
 use Rattle.std.specs.Prelude.{filter}
 use Rattle.std.specs.List.{list_any}
 use Rattle.std.specs.Option.{option_map}
 use Rattle.std.specs.Str.{bytes_eq}
-use Rattle.mz_scope.specs.Names.{Names, find, ConEntry}
+use Rattle.mz_scope.specs.Names.{find, ConEntry}
 use Rattle.mz_scope.specs.View.{only, any_held}
 use Rattle.mz_scope.specs.declared.con_entry.NamedCon.{NamedCon}
 use Rattle.mz_scope.specs.declared.entries.Holder.{Holder}

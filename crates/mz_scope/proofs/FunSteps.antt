@@ -1,13 +1,13 @@
 -- The parts of a function came one after the other, and so the function.
-use Rattle.std.proofs.Common.{◌≡◌, ℕ, ◌<◌, ◌≤◌, List, [], Option, Some, None, map, length, get_or, slice_get, refl, sym, ap, ap₂, ◌∙◌, subst}
+use Rattle.std.proofs.Common.{◌≡◌, ℕ, ◌<◌, ◌≤◌, List, [], Option, Some, None, map, length, get_or, slice_get, refl, sym, ap, ◌∙◌, subst}
 use Rattle.std.specs.Prelude.{option_map}
 use Rattle.std.proofs.lemmas.Option.{slice_get-map, slice_get_past, slice_get_read}
 use Rattle.mz_tree.specs.Code.{Body}
 use Rattle.mz_tree.specs.Programs.{Fun}
 use Rattle.mz_scope.specs.declared.making.CoreName.{CoreName as CodeName}
 use Rattle.mz_scope.specs.Syntax.{Word, FunTree}
-use Rattle.mz_scope.specs.Names.{find, Globals, FunEntry, sig_number}
-use Rattle.mz_scope.specs.Making.{CoreName, Made, Came, Came_to, Part, declared_or}
+use Rattle.mz_scope.specs.Names.{find, Globals, FunEntry}
+use Rattle.mz_scope.specs.Making.{CoreName, Made, Came, Came_to, Part}
 use Rattle.mz_scope.specs.Declarations.{FunctionBody, declares, param_name, body_made, with_params, too_many, function}
 use Rattle.mz_scope.specs.FunctionBodies.{body_part, sig_by_name}
 use Rattle.mz_scope.specs.View.{core_name_of}

@@ -1,5 +1,5 @@
 -- One more declaration came: what is declared so far grows at its end.
-use Rattle.std.proofs.Common.{◌≡◌, ℕ, ◌+◌, ◌<◌, ◌≤◌, List, [], ◌∷◌, ◌++◌, map, drop, length, get_or, refl, sym, ap, ap₂, ◌∙◌, append_assoc}
+use Rattle.std.proofs.Common.{◌≡◌, ℕ, ◌+◌, List, [], ◌∷◌, ◌++◌, map, length, refl, sym, ap, ap₂, ◌∙◌, append_assoc}
 use Rattle.std.proofs.lemmas.List.{append-nil, map-append}
 use Rattle.mz_tree.specs.declared.program.Program.{Program as CodeProgram}
 use Rattle.mz_tree.specs.declared.program.Variety.{Variety as CodeVariety}
@@ -7,7 +7,7 @@ use Rattle.mz_tree.specs.declared.program.Con.{Con as CodeCon}
 use Rattle.mz_tree.specs.declared.program.Sig.{Sig as CodeSig}
 use Rattle.mz_tree.specs.declared.program.Fun.{Fun as CodeFun}
 use Rattle.mz_tree.specs.Programs.{Variety, Con, Sig, Fun, Program}
-use Rattle.mz_tree.specs.View.{plain_variety, plain_con, plain_sig, plain_fun, plain_clause, plain_program}
+use Rattle.mz_tree.specs.View.{plain_variety, plain_con, plain_sig, plain_fun, plain_program}
 use Rattle.mz_scope.specs.declared.counts.Counts.{Counts}
 use Rattle.mz_scope.specs.Syntax.{DataTree, SigTree, FunTree, Declaration, Data_declaration, Sig_declaration, Fun_declaration}
 use Rattle.mz_scope.specs.Names.{Globals}

@@ -4,7 +4,7 @@ use Rattle.std.specs.Prelude.{option_map}
 use Rattle.mz_tree.specs.Programs.{Con, Field, Need}
 use Rattle.mz_scope.specs.Syntax.{FieldTree, ConTree, ParamTree, NeedTree}
 use Rattle.mz_scope.specs.Names.{Names, find, numbered, Globals, ConEntry}
-use Rattle.mz_scope.specs.Making.{Made, Came, Came_to, Part, goes_on, give}
+use Rattle.mz_scope.specs.Making.{Made, Came_to, goes_on, give}
 use Rattle.mz_scope.specs.Types.{flat_typed, flat_atom}
 use Rattle.mz_scope.specs.Declarations.{declares, fields_from, cons_from, params_from, needs_of}
 use Rattle.mz_scope.specs.Members.{one_field, one_con, one_param, one_need}

@@ -1,5 +1,5 @@
 -- Which expressions are a name alone: none with an operator, a select or another form.
-use Rattle.std.proofs.Common.{◌≡◌, ℕ, List, [], ◌∷◌, Bool, true, false, Option, Some, None, option_map, refl, sym, ap, ◌∙◌}
+use Rattle.std.proofs.Common.{◌≡◌, ℕ, List, [], ◌∷◌, true, false, Option, Some, None, option_map, refl, sym, ap}
 use Rattle.std.specs.Prelude.{is_some}
 use Rattle.std.proofs.lemmas.Bool.{false≢true}
 use Rattle.mz_tree.specs.declared.types.Place.{Place}
@@ -12,7 +12,7 @@ use Rattle.mz_parse.specs.declared.bodies.Select.{Select}
 use Rattle.mz_scope.specs.Syntax.{Word, Expr, Number_expr, Unit_expr, Name_expr, Arith_expr, Call_expr, New_expr, Read_expr, Write_expr, New_lock_expr, Print_expr, If_expr, Match_expr, Retag_expr, Give_expr, Take_expr, Acquire_expr, Release_expr, Spawn_expr}
 use Rattle.mz_scope.specs.Names.{Names, find}
 use Rattle.mz_scope.specs.Bodies.{local_name}
-use Rattle.mz_scope.specs.Trees.{operator_in, select_of, selected, write_to, expr_tree, term_tree, product_tree}
+use Rattle.mz_scope.specs.Trees.{operator_in, select_of, selected, write_to, expr_tree, term_tree}
 use Rattle.mz_scope.specs.Lists.{postfix_tree, factors_on, terms_on, compared_with}
 use Rattle.mz_scope.specs.Kinds.{name_of}
 use Rattle.mz_scope.proofs.TreeForms.{term_tree_is, comparing_tree_is}

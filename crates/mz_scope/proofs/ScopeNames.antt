@@ -1,5 +1,5 @@
 -- Names as the code holds them: what stands at a place, and the spelling of the last.
-use Rattle.std.proofs.Common.{◌≡◌, ℕ, zero, suc, ◌<◌, List, [], ◌∷◌, ◌++◌, map, length, get_or, Some, slice_get, refl, ap, ◌∙◌, arith}
+use Rattle.std.proofs.Common.{◌≡◌, ℕ, zero, suc, ◌<◌, List, [], ◌∷◌, ◌++◌, map, length, get_or, Some, slice_get, refl, ap, arith}
 use Rattle.mz_scope.specs.Types.{names_in}
 use Rattle.mz_scope.specs.Locals.{locals_in, numbers_in}
 use Rattle.mz_scope.specs.Bodies.{with_last_spelled}

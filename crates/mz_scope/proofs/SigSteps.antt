@@ -1,10 +1,10 @@
 -- The parts of a signature came one after the other, and so the signature.
-use Rattle.std.proofs.Common.{◌≡◌, ℕ, List, [], ◌∷◌, ◌++◌, Option, map, length, refl, sym, ap, ap₂, ◌∙◌, subst}
+use Rattle.std.proofs.Common.{◌≡◌, ℕ, List, ◌∷◌, ◌++◌, length, refl, sym, ap, ◌∙◌}
 use Rattle.mz_tree.specs.Plain.{Atom}
 use Rattle.mz_tree.specs.Programs.{Need, Sig}
 use Rattle.mz_scope.specs.declared.fault.Cause.TheVariants.{Twice}
-use Rattle.mz_scope.specs.Syntax.{ParamTree, NeedTree, SigTree, AtomTrees}
-use Rattle.mz_scope.specs.Names.{Names, find, Globals}
+use Rattle.mz_scope.specs.Syntax.{SigTree}
+use Rattle.mz_scope.specs.Names.{find, Globals}
 use Rattle.mz_scope.specs.Making.{Made, Came, Came_to, fault_if}
 use Rattle.mz_scope.specs.Types.{flat_typed, flat_atoms}
 use Rattle.mz_scope.specs.Declarations.{is_other, declares, params_of, all_of, params_from, needs_of, signature}

@@ -12,7 +12,7 @@ use Rattle.std.specs.Prelude.{unwrap_or}
 use Rattle.mz_scope.specs.declared.fault.Cause.TheVariants.{Shape, NotExhaustive}
 use Rattle.mz_scope.specs.Syntax.{Word, FieldName, AtomTree, AtomTrees, No_atom_trees, More_atom_trees, Lock_tree, Select, Expr, Arith_expr, Read_expr, Write_expr, If_expr, Match_expr, Exprs, No_exprs, More_exprs, FieldValues, No_values, More_values, Block, The_block, BlockItem, Let_item, Plain_item, No_value, BlockItems, No_items, More_items, Arms, No_arms, More_arms}
 use Rattle.mz_scope.specs.Names.{Names, Globals, ConEntry}
-use Rattle.mz_scope.specs.Making.{Made, Came, Came_to, goes_on, give, add_command, fault_if}
+use Rattle.mz_scope.specs.Making.{Made, Came_to, goes_on, give, add_command, fault_if}
 use Rattle.mz_scope.specs.Types.{number_of, name_in, con_by_name, is_field, flat_field_names, flat_typed, flat_atom, flat_atoms}
 use Rattle.mz_scope.specs.Bodies.{name_value, given, select_con, field_in, with_number, is_misplaced, lacks_a_case, match_data, body_came, flat_expression, flat_expressions, flat_values, flat_cases, flat_block, flat_items, flat_item, flat_value}
 use Rattle.mz_scope.specs.Trees.{items_of, let_items, value_of}

@@ -1,24 +1,23 @@
 -- The views of expressions and blocks, by the parts and lists that the code reads: a row is gone over as its list is.
-use Rattle.std.proofs.Common.{◌≡◌, ℕ, List, [], ◌∷◌, ◌++◌, map, Option, Some, None, option_map, refl, sym, ap, ap₂, ◌∙◌}
+use Rattle.std.proofs.Common.{◌≡◌, ℕ, List, [], ◌∷◌, map, Option, Some, None, option_map, refl, sym, ap, ap₂, ◌∙◌}
 use denote.Hole.Carrier
 use denote.Hole.Carrier.{listed}
 use Rattle.mz_token.specs.declared.token.Token.{Token}
 use Rattle.mz_types.specs.declared.tree.SurfaceAtom.{SurfaceAtom}
 use Rattle.mz_parse.specs.declared.bodies.Expression.{Expression, If, Match, Spawn, Row_of-Block, end_of-Block, more_of-Block, Row_of-Case, end_of-Case, more_of-Case, items-the_row-Case, items_hidden-the_row-Case-3, Row_of-Expression, end_of-Expression, more_of-Expression, items-the_row-Expression}
-use Rattle.mz_parse.specs.declared.bodies.BlockItem.{BlockItem}
 use Rattle.mz_parse.specs.declared.bodies.BlockItem.TheBlock as rows
 use Rattle.mz_parse.specs.declared.bodies.Block.{Block as CodeBlock, Row_of-BlockItem, end_of-BlockItem, more_of-BlockItem, items-the_row-BlockItem, items_shown-the_row-BlockItem-0, Held-Block-last, Block-last-None', Block-last-Some', view-Block-last}
 use Rattle.mz_parse.specs.declared.bodies.Case.{Case as CodeCase}
 use Rattle.mz_parse.specs.declared.bodies.Comparison.{Comparison, out-Comparison, is-Comparison', Row_of-Comparing, end_of-Comparing, more_of-Comparing, items-the_row-Comparing, back-Comparison-right}
 use Rattle.mz_parse.specs.declared.bodies.Comparing.{Comparing, out-Comparing, is-Comparing'}
 use Rattle.mz_parse.specs.declared.bodies.FieldValue.{FieldValue}
-use Rattle.mz_parse.specs.declared.bodies.Primary.{Primary, Call, Group, Construct, Row_of-FieldValue, end_of-FieldValue, more_of-FieldValue, items-the_row-FieldValue, items_hidden-the_row-FieldValue-6}
+use Rattle.mz_parse.specs.declared.bodies.Primary.{Call, Group, Construct, Row_of-FieldValue, end_of-FieldValue, more_of-FieldValue, items-the_row-FieldValue, items_hidden-the_row-FieldValue-6}
 use Rattle.mz_parse.specs.declared.bodies.Primary.{items_hidden-the_row-Expression-5}
 use Rattle.mz_parse.specs.declared.bodies.Product.{Product, out-Product, is-Product', Row_of-Factor, end_of-Factor, more_of-Factor, items-the_row-Factor, items_hidden-the_row-Factor-8}
 use Rattle.mz_parse.specs.declared.bodies.Sum.{Sum, out-Sum, is-Sum', Row_of-Term, end_of-Term, more_of-Term, items-the_row-Term, items_hidden-the_row-Term-9}
 use Rattle.mz_parse.specs.declared.bodies.Term.{Term, out-Term, is-Term'}
-use Rattle.mz_scope.specs.Syntax.{Expr, Unit_expr, Block, BlockItems, No_items, Value, No_value, Arith_expr, Call_expr, New_expr, If_expr, Match_expr, Spawn_expr, More_exprs, More_values, More_arms, More_items, The_block}
-use Rattle.mz_scope.specs.Trees.{word_of, nowhere, operator_in, let_item, let_items, item_value, value_of, items_of, atom_trees, item_tree, expr_tree, primary_tree, comparison_tree, compared, comparing_row, comparing_tree, sum_tree, term_row, term_tree, product_tree, factor_row, boxed_expr, expr_row, value_row, block_row, case_row, item_row, last_items, last_row_items, last_value, last_row_value, block_tree}
+use Rattle.mz_scope.specs.Syntax.{Expr, Unit_expr, Block, BlockItems, No_items, No_value, Arith_expr, Call_expr, New_expr, If_expr, Match_expr, Spawn_expr, More_exprs, More_values, More_arms, More_items, The_block}
+use Rattle.mz_scope.specs.Trees.{word_of, nowhere, operator_in, let_items, value_of, items_of, atom_trees, item_tree, expr_tree, primary_tree, comparison_tree, compared, comparing_row, comparing_tree, sum_tree, term_row, term_tree, product_tree, factor_row, boxed_expr, expr_row, value_row, block_row, case_row, item_row, last_items, last_value, block_tree}
 use Rattle.mz_scope.specs.Lists.{postfix_tree, factors_on, terms_on, compared_with, exprs_of, values_of, arms_of}
 
 -- ---- the row of a box has what is in the box alone

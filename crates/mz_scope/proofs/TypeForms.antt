@@ -1,10 +1,10 @@
 -- The view of a type that holds permissions, by the list that the code reads.
-use Rattle.std.proofs.Common.{◌≡◌, ℕ, List, [], ◌∷◌, map, refl, ap, ◌∙◌}
+use Rattle.std.proofs.Common.{◌≡◌, ℕ, List, refl, ap, ◌∙◌}
 use Rattle.mz_token.specs.declared.token.Token.{Token}
 use Rattle.mz_types.specs.declared.tree.SurfaceType.{Lock, Row_of-SurfaceAtom, end_of-SurfaceAtom, more_of-SurfaceAtom, items-the_row-SurfaceAtom, items_hidden-the_row-SurfaceAtom-0}
 use Rattle.mz_types.specs.declared.tree.SurfaceAtom.{SurfaceAtom}
 use Rattle.mz_types.specs.declared.tree.SurfaceAtom.TheBlock.{hidden-the_row-SurfaceAtom-0}
-use Rattle.mz_scope.specs.Syntax.{Lock_tree, More_atom_trees, atom_trees_of}
+use Rattle.mz_scope.specs.Syntax.{Lock_tree, More_atom_trees}
 use Rattle.mz_scope.specs.Trees.{type_tree, atom_tree, atom_row, atom_trees}
 
 -- a row is seen as the views of its permissions, by going along it

@@ -1,5 +1,5 @@
 -- The walk over a source ended, and what is answered then.
-use Rattle.std.proofs.Common.{◌≡◌, ◌==◌, ◌&&◌, Bool, true, false, not, ℕ, List, [], Option, Some, map, option_map, slice_get, refl, sym, ap, ap₂, ◌∙◌, subst, true≢false}
+use Rattle.std.proofs.Common.{◌≡◌, ◌==◌, ◌&&◌, Bool, true, false, not, ℕ, List, [], Some, map, option_map, slice_get, refl, sym, ap, ap₂, ◌∙◌, subst, true≢false}
 use Rattle.mz_scope.specs.declared.fault.Cause.{Cause}
 use Rattle.mz_scope.specs.declared.fault.Fault.{Fault}
 use Rattle.mz_scope.specs.Faults.{IsFirst}
@@ -11,7 +11,7 @@ use Rattle.mz_scope.specs.declared.making.Making.{Making}
 use Rattle.mz_scope.specs.declared.resolution.Walked.{Walked}
 use Rattle.mz_scope.specs.Syntax.{Declaration}
 use Rattle.mz_scope.specs.Names.{Globals, globals_of}
-use Rattle.mz_scope.specs.Making.{Made, Came, Came_to, nothing_made}
+use Rattle.mz_scope.specs.Making.{Made, Came_to, nothing_made}
 use Rattle.mz_scope.specs.Declarations.{declarations}
 use Rattle.mz_scope.specs.Flattening.{flattened, has_no_param, program_in, faults_in, faults_of, has_main, flat_program, Flattens}
 use Rattle.mz_scope.specs.Walking.{Walks}

@@ -1,14 +1,14 @@
 -- Expressions and blocks, and what they come to: an expression becomes commands, those of its parts from left to right and
 -- then its own, and its value is a core name.
-use Rattle.std.specs.Prelude.{ℕ, ◌==◌, ◌&&◌, ◌||◌, Bool, true, false, not, List, [], ◌∷◌, ◌++◌, length, Option, Some, None, is_some, unwrap_or, codes, option_map, option_and_then}
+use Rattle.std.specs.Prelude.{ℕ, ◌==◌, ◌&&◌, ◌||◌, Bool, false, not, List, [], ◌∷◌, ◌++◌, length, Option, Some, None, is_some, unwrap_or, codes, option_map, option_and_then}
 use Rattle.std.specs.List.{list_any}
 use Rattle.mz_tree.specs.declared.types.Place.{Place}
 use Rattle.mz_tree.specs.Plain.{Atom}
 use Rattle.mz_tree.specs.Code.{Int_op, Unit_op, Fun_op, Copy_op, Arith_op, New_op, Read_op, Write_op, Retag_op, If_op, Match_op, Call_op, Give_op, Take_op, New_lock_op, Acquire_op, Release_op, Spawn_op, Print_op, Command, Case, The_case, Body, The_body, commands_of, cases_of}
 use Rattle.mz_scope.specs.declared.fault.Cause.TheVariants.{Unknown, Twice, Shape, NotExhaustive}
-use Rattle.mz_scope.specs.Syntax.{Word, AtomTrees, Select, Expr, Number_expr, Unit_expr, Name_expr, Arith_expr, Call_expr, New_expr, Read_expr, Write_expr, New_lock_expr, Print_expr, If_expr, Match_expr, Retag_expr, Give_expr, Take_expr, Acquire_expr, Release_expr, Spawn_expr, Exprs, No_exprs, More_exprs, FieldValues, No_values, More_values, Block, The_block, BlockItem, Let_item, Plain_item, BlockItems, No_items, More_items, Value, No_value, The_value, Arms, No_arms, More_arms}
+use Rattle.mz_scope.specs.Syntax.{Word, AtomTrees, Expr, Number_expr, Unit_expr, Name_expr, Arith_expr, Call_expr, New_expr, Read_expr, Write_expr, New_lock_expr, Print_expr, If_expr, Match_expr, Retag_expr, Give_expr, Take_expr, Acquire_expr, Release_expr, Spawn_expr, Exprs, No_exprs, More_exprs, FieldValues, No_values, More_values, Block, The_block, BlockItem, Let_item, Plain_item, BlockItems, No_items, More_items, Value, No_value, The_value, Arms, No_arms, More_arms}
 use Rattle.mz_scope.specs.Names.{Names, find, Globals, ConEntry, FunEntry, holders}
-use Rattle.mz_scope.specs.Making.{CoreName, Made, Came, Came_to, Part, ◌>>=◌, ◌>>◌, give, add_command, next_name, add_fault, fault_if, declared_or}
+use Rattle.mz_scope.specs.Making.{CoreName, Came, Came_to, Part, ◌>>=◌, ◌>>◌, give, add_command, next_name, add_fault, fault_if, declared_or}
 use Rattle.mz_scope.specs.Types.{number_of, in_order, is_field, are_fields, con_by_name, flat_atoms}
 
 -- ---- what a `let` does

@@ -1,13 +1,12 @@
 -- Declarations, and what they come to.
-use Rattle.std.specs.Prelude.{ℕ, ◌+◌, ◌==◌, Bool, true, false, not, List, [], ◌∷◌, ◌++◌, map, length, Option, Some, None, unwrap_or, slice_get, option_map, option_and_then}
+use Rattle.std.specs.Prelude.{ℕ, ◌+◌, ◌==◌, Bool, false, not, List, [], ◌∷◌, ◌++◌, map, length, Option, Some, None, unwrap_or, slice_get, option_map, option_and_then}
 use Rattle.std.specs.List.{range_with_len}
-use Rattle.mz_tree.specs.Plain.{Atom}
 use Rattle.mz_tree.specs.Code.{Body}
 use Rattle.mz_tree.specs.Programs.{Variety, Con, Field, Need, Sig, Fun, Program}
-use Rattle.mz_scope.specs.declared.fault.Cause.TheVariants.{Unknown, Twice, TooMany}
+use Rattle.mz_scope.specs.declared.fault.Cause.TheVariants.{Twice, TooMany}
 use Rattle.mz_scope.specs.Syntax.{Word, FieldTree, ConTree, DataTree, ParamTree, NeedTree, SigTree, FunTree, Declaration, Data_declaration, Sig_declaration, Fun_declaration}
 use Rattle.mz_scope.specs.Names.{Names, find, numbered, Globals, TypeEntry, ConEntry, FunEntry, sig_number}
-use Rattle.mz_scope.specs.Making.{CoreName, Made, Came, Came_to, Part, ◌>>=◌, ◌>>◌, give, add_fault, fault_if, declared_or}
+use Rattle.mz_scope.specs.Making.{CoreName, Came, Came_to, Part, ◌>>=◌, ◌>>◌, give, add_fault, fault_if, declared_or}
 use Rattle.mz_scope.specs.Types.{data_by_name, flat_typed, flat_atom, flat_atoms}
 use Rattle.mz_scope.specs.Bodies.{flat_block}
 

@@ -1,13 +1,13 @@
 -- The flat program of a source, and all that is wrong with its names and shapes. The program is total: where something is
 -- wrong it is of no use, and it says only where later faults stand.
-use Rattle.std.specs.Prelude.{◌≡◌, ℕ, ◌==◌, ◌&&◌, Bool, true, false, List, [], Option, Some, None, codes, slice_get}
+use Rattle.std.specs.Prelude.{◌≡◌, ◌==◌, ◌&&◌, Bool, true, false, List, [], Option, Some, None, codes, slice_get}
 use Rattle.std.specs.List.{list_any}
 use Rattle.std.specs.Str.{bytes_eq}
 use Rattle.mz_tree.specs.Programs.{Sig, Fun, Program}
 use Rattle.mz_scope.specs.declared.fault.Fault.{Fault}
 use Rattle.mz_scope.specs.Syntax.{Declaration}
 use Rattle.mz_scope.specs.Names.{globals_of}
-use Rattle.mz_scope.specs.Making.{Made, Came, Came_to, nothing_made}
+use Rattle.mz_scope.specs.Making.{Came, Came_to, nothing_made}
 use Rattle.mz_scope.specs.Declarations.{declarations}
 
 -- what the source comes to

@@ -1,6 +1,6 @@
 -- Parts of types and of expressions by themselves, as the code reads them.
 use Rattle.std.specs.Prelude.{ℕ, List, Option, Some, None, option_map}
-use Rattle.mz_tree.specs.Plain.{Atom, Ty, Has_atom, Block_type}
+use Rattle.mz_tree.specs.Plain.{Atom, Has_atom, Block_type}
 use Rattle.mz_tree.specs.declared.types.Place.{Place}
 use Rattle.mz_tree.specs.Code.{Read_op}
 use Rattle.mz_scope.specs.Syntax.{Word, FieldName, Select, Expr, Name_expr, BlockItem}

@@ -11,7 +11,6 @@ pub mod Flattening
 pub mod Resolves
 pub mod View
 pub mod Locals
-pub mod Scoped
 pub mod Tables
 pub mod Kinds
 pub mod Lists

@@ -1,7 +1,7 @@
 -- One member of a declaration by itself, as the code reads it: a field, a constructor, a parameter or a need.
 use Rattle.std.specs.Prelude.{ℕ, map, option_map}
 use Rattle.mz_tree.specs.Programs.{Con, Field, Need}
-use Rattle.mz_scope.specs.Syntax.{Word, FieldTree, ConTree, ParamTree, NeedTree}
+use Rattle.mz_scope.specs.Syntax.{FieldTree, ConTree, ParamTree, NeedTree}
 use Rattle.mz_scope.specs.Names.{Names, find, numbered, Globals, ConEntry}
 use Rattle.mz_scope.specs.Making.{Part, ◌>>=◌, ◌>>◌, give}
 use Rattle.mz_scope.specs.Types.{flat_typed, flat_atom}

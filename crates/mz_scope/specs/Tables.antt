@@ -1,5 +1,5 @@
 -- The tables of what is declared at the top level: lists in order, and maps that have the first declaration of each name.
-use Rattle.std.specs.Prelude.{◌≡◌, ℕ, ◌+◌, ◌==◌, ◌||◌, not, Bool, true, false, Vec, List, [], ◌∷◌, ◌++◌, map, length, Option, Some, None, if◌then◌else◌, is_some}
+use Rattle.std.specs.Prelude.{◌≡◌, ℕ, ◌+◌, ◌==◌, ◌||◌, not, Bool, false, Vec, List, [], ◌∷◌, ◌++◌, map, length, Option, Some, None, if◌then◌else◌, is_some}
 use Rattle.std.specs.List.{list_any}
 use Rattle.std.specs.Str.{bytes_eq}
 use Rattle.std.specs.BTreeMap.{BTreeMap}
@@ -16,7 +16,7 @@ use Rattle.mz_scope.specs.declared.entries.Holder.{Holder}
 use Rattle.mz_scope.specs.declared.con_entry.NamedCon.{NamedCon}
 use Rattle.mz_scope.specs.declared.con_entry.ConTable.{ConTable}
 use Rattle.mz_scope.specs.Syntax.{Word, ConTree, FunTree, Declaration}
-use Rattle.mz_scope.specs.Names.{Names, find, numbered, TypeName, Data_name, Sig_name, TypeEntry, ConEntry, FunEntry, type_names, con_names, con_names_in, con_entry, param_count}
+use Rattle.mz_scope.specs.Names.{Names, find, TypeName, Data_name, Sig_name, TypeEntry, ConEntry, FunEntry, type_names, con_names, con_names_in, con_entry, param_count}
 use Rattle.mz_scope.specs.NameMaps.{found, Maps}
 
 -- ---- data types and signatures

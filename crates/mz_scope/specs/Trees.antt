@@ -1,12 +1,12 @@
 -- The tree of a source that was read, seen without memory: brackets and levels of operators dissolve, words take their text
 -- from the bytes of the source.
-use Rattle.std.specs.Prelude.{ℕ, ◌==◌, Bool, List, [], ◌∷◌, map, Option, Some, None, is_some, option_map, if◌then◌else◌}
+use Rattle.std.specs.Prelude.{ℕ, ◌==◌, List, [], ◌∷◌, map, Option, Some, None, is_some, option_map, if◌then◌else◌}
 use Rattle.mz_tree.specs.declared.types.Place.{Place}
 use Rattle.mz_tree.specs.declared.code.Arith.{Arith}
 use Rattle.mz_tree.specs.declared.code.Arith.TheVariants.{Add, Sub, Mul, Div, Rem, Eq, Ne, Lt, Le, Gt, Ge}
 use Rattle.mz_token.specs.declared.token.Token.{Token}
 use Rattle.mz_token.specs.declared.token.Kind.{Kind}
-use Rattle.mz_token.specs.declared.token.Kind.TheVariants.{Lower, Upper, Number, Key, Mark}
+use Rattle.mz_token.specs.declared.token.Kind.TheVariants.{Number, Mark}
 use Rattle.mz_token.specs.Tokens.{text_of}
 use Rattle.mz_types.specs.declared.tree.FieldName.{FieldName as CodeFieldName}
 use Rattle.mz_types.specs.declared.tree.SurfaceType.{SurfaceType, Int, Unknown, Dynamic, Locked, Singleton, Named, Lock', Structure, Row_of-SurfaceAtom, end_of-SurfaceAtom, more_of-SurfaceAtom}

@@ -4,8 +4,7 @@
 //! brackets and levels), `specs/Names.antt` (what is declared at the top level, where the first declaration of a name
 //! counts), `specs/Types.antt`, `Bodies.antt` and `Declarations.antt` (what each part comes to), and `specs/Flattening.antt`
 //! and `Faults.antt` (the flat program, and the first of all that is wrong); `specs/Resolves.antt` is its promise.
-//! `specs/Reads.antt` says what it is that bytes are the text of a program, `specs/Scoped.antt` what holds of each such
-//! program.
+//! `specs/Reads.antt` says what it is that bytes are the text of a program; that it is scoped then is said by `mz_scoped`.
 //!
 //! The definition of a part says its commands, its value and its faults together, handed on from left to right as in
 //! `specs/Making.antt`: where something is wrong a default stands for it and the walk goes on, so the first fault of all is
@@ -45,3 +44,6 @@ mod words;
 
 pub use laws::at_most_one_program;
 pub use resolution::{ScopeFault, resolve};
+
+#[cfg(test)]
+mod tests;

@@ -1,4 +1,4 @@
-use Rattle.std.proofs.Common.{◌≡◌, ◌+◌, [], ◌∷◌, ◌++◌, drop, take, map, get_or, Some, refl, sym, ap, ap₂, ◌∙◌, arith, reverse}
+use Rattle.std.proofs.Common.{◌+◌, [], ◌∷◌, ◌++◌, drop, take, map, get_or, Some, sym, ap, ap₂, ◌∙◌, arith, reverse}
 use Rattle.std.specs.Prelude.{option_map, unwrap_or}
 use Rattle.std.specs.Option.{option_copied}
 use Rattle.std.proofs.lemmas.List.{take_all, take_more}
@@ -7,7 +7,6 @@ use Rattle.mz_tree.specs.View.{plain_op, plain_atoms, plain_body, plain_case, pl
 use Rattle.mz_tree.specs.declared.code.Op.{Match as MatchCode}
 use Rattle.mz_tree.specs.declared.code.Case.{roll-Case, rolls-Case'}
 use Rattle.mz_tree.proofs.CodeViews.{plain_match}
-use Rattle.mz_parse.specs.declared.bodies.BlockItem.{Let, Plain}
 use Rattle.mz_parse.specs.declared.bodies.Comparison.{out-Comparison}
 use Rattle.mz_parse.specs.declared.bodies.Comparing.{out-Comparing}
 use Rattle.mz_parse.specs.declared.bodies.Product.{out-Product}
@@ -15,9 +14,9 @@ use Rattle.mz_parse.specs.declared.bodies.Sum.{out-Sum}
 use Rattle.mz_parse.specs.declared.bodies.Term.{out-Term}
 use Rattle.mz_parse.specs.declared.bodies.Block.{out-Block}
 use Rattle.mz_scope.specs.declared.fault.Cause.TheVariants.{Shape, NotExhaustive}
-use Rattle.mz_scope.specs.Syntax.{Arith_expr, Call_expr, New_expr, If_expr, Match_expr, Spawn_expr, Let_item, Plain_item}
+use Rattle.mz_scope.specs.Syntax.{Call_expr, New_expr, If_expr, Match_expr, Spawn_expr}
 use Rattle.mz_scope.specs.Making.{add_command, fault_if}
-use Rattle.mz_scope.specs.Bodies.{flat_expression, flat_expressions, flat_values, flat_cases, flat_items, match_data, is_misplaced}
+use Rattle.mz_scope.specs.Bodies.{flat_expression, flat_expressions, flat_values, flat_cases, flat_items, is_misplaced}
 use Rattle.mz_scope.specs.Trees.{word_of, operator_in, select_of, selected, write_to, primary_tree, product_tree, sum_tree, comparison_tree, expr_tree, item_tree, items_of, block_tree, atom_trees}
 use Rattle.mz_scope.specs.Lists.{postfix_tree, factors_on, terms_on, compared_with, exprs_of, values_of, arms_of}
 use Rattle.mz_scope.specs.Kinds.{flat_end}

@@ -1,5 +1,4 @@
 use Rattle.std.proofs.Common.{map, ap, ◌∙◌}
-use Rattle.std.specs.Prelude.{List, ℕ}
 use Rattle.mz_tree.specs.View.{plain_field}
 use Rattle.mz_scope.specs.Syntax.{FieldTree}
 use Rattle.mz_scope.specs.Names.{numbered}

@@ -1,4 +1,4 @@
-use Rattle.std.proofs.Common.{◌≡◌, map, sym, ap, ◌∙◌, arith}
+use Rattle.std.proofs.Common.{sym, ap, ◌∙◌, arith}
 use Rattle.mz_scope.specs.declared.making.CoreName.{CoreName}
 use Rattle.mz_scope.specs.Making.{CoreName as PlainName}
 use Rattle.mz_scope.specs.View.{core_name_of}

@@ -1,4 +1,4 @@
-use Rattle.std.proofs.Common.{◌≡◌, map, sym, ap, ◌∙◌, arith}
+use Rattle.std.proofs.Common.{◌∙◌, arith}
 use Rattle.mz_scope.specs.declared.entries.Param.{Param}
 use Rattle.mz_scope.specs.Declarations.{param_name}
 use Rattle.mz_scope.specs.Tables.{param_word}

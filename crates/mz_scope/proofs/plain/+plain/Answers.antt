@@ -1,9 +1,9 @@
-use Rattle.std.proofs.Common.{◌≡◌, [], refl, sym, ap, ◌∙◌}
+use Rattle.std.proofs.Common.{sym, ap, ◌∙◌}
 use Rattle.std.proofs.lemmas.Bool.{false≢true}
 use Rattle.mz_parse.specs.declared.bodies.Comparison.{out-Comparison}
 use Rattle.mz_parse.specs.declared.bodies.Sum.{out-Sum}
 use Rattle.mz_parse.specs.declared.bodies.Product.{out-Product}
-use Rattle.mz_scope.specs.Trees.{expr_tree, primary_tree, product_tree, sum_tree, comparison_tree, selected}
+use Rattle.mz_scope.specs.Trees.{expr_tree, primary_tree, product_tree, sum_tree, selected}
 use Rattle.mz_scope.specs.Lists.{postfix_tree, factors_on, terms_on}
 use Rattle.mz_scope.specs.Kinds.{name_of}
 use Rattle.mz_scope.proofs.TreeForms.{group_tree_is, product_tree_is, sum_tree_is, comparison_tree_is}

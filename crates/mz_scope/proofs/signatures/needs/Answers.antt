@@ -1,4 +1,4 @@
-use Rattle.std.proofs.Common.{◌≡◌, ◌+◌, drop, map, refl, arith}
+use Rattle.std.proofs.Common.{◌+◌, drop, map, refl, arith}
 use Rattle.mz_tree.specs.View.{plain_need}
 use Rattle.mz_scope.specs.Declarations.{needs_of}
 use Rattle.mz_scope.specs.Trees.{need_tree}

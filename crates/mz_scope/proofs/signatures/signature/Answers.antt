@@ -7,7 +7,7 @@ use Rattle.mz_scope.specs.Names.{find, numbered}
 use Rattle.mz_scope.specs.Making.{Came_to, fault_if}
 use Rattle.mz_scope.specs.Types.{flat_typed, flat_atoms}
 use Rattle.mz_scope.specs.Declarations.{is_other, declares, params_of, all_of, params_from, needs_of}
-use Rattle.mz_scope.specs.Trees.{type_tree, atom_trees, param_tree, need_tree, sig_tree}
+use Rattle.mz_scope.specs.Trees.{atom_trees, param_tree, need_tree, sig_tree}
 use Rattle.mz_scope.specs.View.{made_of}
 use Rattle.mz_scope.proofs.DataSteps.{first_type}
 use Rattle.mz_scope.proofs.SigSteps.{signature_came, sig_same}

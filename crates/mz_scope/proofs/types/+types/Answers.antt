@@ -1,4 +1,4 @@
-use Rattle.std.proofs.Common.{◌≡◌, sym, ap, ◌∙◌, arith}
+use Rattle.std.proofs.Common.{sym, ap, ◌∙◌, arith}
 use Rattle.mz_tree.specs.View.{plain_atom, plain_atoms}
 use Rattle.mz_scope.specs.Types.{flat_typed, flat_atoms}
 use Rattle.mz_scope.specs.Trees.{type_tree, atom_tree, atom_trees}

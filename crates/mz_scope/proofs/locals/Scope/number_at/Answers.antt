@@ -1,4 +1,4 @@
-use Rattle.std.proofs.Common.{◌≡◌, length, slice_get, Some, sym, ap, ◌∙◌, subst, ◌<◌}
+use Rattle.std.proofs.Common.{◌≡◌, length, slice_get, sym, ap, ◌∙◌, subst, ◌<◌}
 use Rattle.mz_scope.specs.Locals.{locals_in, numbers_in}
 use Rattle.mz_scope.proofs.ScopeNames.{number_there}
 use Rattle.mz_scope.proofs.locals.Scope.number_at.Goals as goal

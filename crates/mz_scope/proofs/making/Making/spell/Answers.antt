@@ -1,4 +1,4 @@
-use Rattle.std.proofs.Common.{◌≡◌, ◌++◌, ◌∷◌, [], refl, sym, ap, ◌∙◌}
+use Rattle.std.proofs.Common.{◌≡◌, ◌++◌, ◌∷◌, [], ap, ◌∙◌}
 use Rattle.mz_scope.specs.Making.{Came_to}
 use Rattle.mz_scope.specs.View.{made_of}
 use Rattle.mz_scope.proofs.ScopeNames.{spelled_last}

@@ -1,5 +1,4 @@
-use Rattle.std.proofs.Common.{◌≡◌, Some, None, sym, ap, subst, ◌∙◌}
-use Rattle.std.specs.Option.{option_map}
+use Rattle.std.proofs.Common.{◌≡◌, Some, None, sym, subst, ◌∙◌}
 use Rattle.mz_scope.specs.Names.{find, Globals}
 use Rattle.mz_scope.proofs.Found.{place_of_none, con_found}
 use Rattle.mz_scope.proofs.names.Globals.con_named.Goals as goal
