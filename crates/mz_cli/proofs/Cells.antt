@@ -8,7 +8,7 @@ use Rattle.mz_tree.specs.declared.types.Place.{Place}
 use Rattle.mz_tree.specs.Plain.{Has_atom, Int_type, Unknown_type}
 use Rattle.mz_tree.specs.Code.{Body}
 use Rattle.mz_tree.specs.Programs.{Variety, Con, Sig, Fun, Program}
-use Rattle.mz_cli.specs.Reads.{IsMain}
+use Rattle.mz_cli.specs.Mains.{IsMain}
 use Rattle.mz_cli.proofs.NameKinds.{IsKinded}
 
 -- how the source spells what it declares, and where the data type stands

@@ -10,3 +10,10 @@ lines_more (m ∷ prints) n = ap (λ l. line (decimal m) ++ l) (lines_more print
 -- parts that are joined from the right make the line that is joined from the left
 pub one_line : (number column : List ℕ) → number ++ 58 ∷ (column ++ 10 ∷ []) ≡ ((number ++ 58 ∷ []) ++ column) ++ 10 ∷ []
 one_line number column = sym (ap (λ l. l ++ 10 ∷ []) (append_assoc number (58 ∷ []) column) ∙ append_assoc number (58 ∷ column) (10 ∷ []))
+
+-- the same of a place and what is wrong there
+pub place_line : (number column what : List ℕ) → number ++ 58 ∷ (column ++ 58 ∷ 32 ∷ (what ++ 10 ∷ [])) ≡ ((((number ++ 58 ∷ []) ++ column) ++ 58 ∷ 32 ∷ []) ++ what) ++ 10 ∷ []
+place_line number column what =
+    let front = (number ++ 58 ∷ []) ++ column in
+    sym (append_assoc (front ++ 58 ∷ 32 ∷ []) what (10 ∷ []) ∙ append_assoc front (58 ∷ 32 ∷ []) (what ++ 10 ∷ [])
+    ∙ append_assoc (number ++ 58 ∷ []) column (58 ∷ 32 ∷ (what ++ 10 ∷ [])) ∙ append_assoc number (58 ∷ []) (column ++ 58 ∷ 32 ∷ (what ++ 10 ∷ [])))

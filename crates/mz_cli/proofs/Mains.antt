@@ -6,7 +6,7 @@ use Rattle.mz_tree.specs.Programs.{Fun}
 use Rattle.mz_tree.specs.declared.program.Fun.{Fun as CodeFun}
 use Rattle.mz_tree.specs.declared.program.Program.{Program as CodeProgram}
 use Rattle.mz_tree.specs.View.{plain_program, plain_body, plain_fun}
-use Rattle.mz_cli.specs.Reads.{IsMain}
+use Rattle.mz_cli.specs.Mains.{IsMain}
 
 pub main_here : (program : CodeProgram) (i : ℕ) (f : CodeFun) → i < length program.funs → f ≡ get_or program.funs i f → f.name ≡ codes "main" → IsMain (plain_program program) (plain_body f.body)
 main_here program i f inside is named = record {

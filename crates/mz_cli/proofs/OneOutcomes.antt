@@ -17,7 +17,7 @@ use Rattle.mz_cli.proofs.Threads.{frame_in, frames_in}
 use Rattle.mz_cli.proofs.NameKinds.{NameKind, Int_kind, Unit_kind, Cell_kind, Kinds, Gives, AllGive, IsKinded}
 use Rattle.mz_cli.proofs.NumberMaps.{Numbers, put_number, number_here, number_there}
 use Rattle.mz_cli.proofs.Cells.{kinded_main}
-use Rattle.mz_cli.proofs.Kinded.{of_cells}
+use Rattle.mz_cli.proofs.CellTexts.{cells_read}
 use Rattle.mz_cli.proofs.Progress.{fields_in, one_field, ended_runs, stopped_runs}
 
 -- ---- what commands come to, by the numbers of the names
@@ -393,6 +393,6 @@ come_to_one outcome w v one other = record {
 
 -- all runs of a `main` of the first form come to the same, since its body goes by kinds
 pub one_outcome : AtMostOneOutcome
-one_outcome bytes program body w v reads main one other =
-    let kinded : IsKinded body = kinded_main program body (of_cells bytes reads.form program reads.flat) main in
+one_outcome bytes program body w v reads first main one other =
+    let kinded : IsKinded body = kinded_main program body (cells_read bytes program reads first) main in
     come_to_one (comes_to (commands_in body) (λ name. 0) []) w v (run_comes body w kinded one) (run_comes body v kinded other)

@@ -10,9 +10,12 @@ use Rattle.mz_cli.specs.declared.status.Status.{Status}
 use Rattle.mz_cli.specs.declared.status.Status.TheVariants as status
 use Rattle.mz_cli.specs.declared.run.Ending.TheVariants as ending
 use Rattle.mz_cli.specs.Running.{RunsTo}
-use Rattle.mz_cli.specs.Reads.{ReadsFirst, IsMain}
-use Rattle.mz_cli.specs.Outcome.{IsSched, source_limit, print_lines, stop_line, Answers, AreLeft, Comes, Traffic, Outcome}
-use Rattle.mz_cli.specs.Answered.{IsReady, RunAnswers}
+use Rattle.mz_cli.specs.Mains.{IsMain}
+use Rattle.mz_cli.specs.declared.refusal.Refusal.{Refusal}
+use Rattle.mz_cli.specs.declared.refusal.Refusal.TheVariants as refusal
+use Rattle.mz_cli.specs.Refusals.{source_limit, IsWrong, Causes, refusal_text}
+use Rattle.mz_cli.specs.Outcome.{IsSched, line, print_lines, stop_line, Answers, AreLeft, Comes, Traffic, Outcome}
+use Rattle.mz_cli.specs.Answered.{IsRead, IsReady, RunAnswers}
 
 -- ---- words
 
@@ -36,16 +39,29 @@ pub halted : (program : Program) (body : Body) (place : Place) (prints text : Li
 halted program body place prints text main (w, leads, stops, same) written = (body, w, place, main, leads, stops, written ∙ ap (λ l. print_lines l ++ stop_line place) same)
 
 -- what the run answers is what the bytes answer
-pub run_answers : (bytes : List ℕ) (program : Program) (s : Status) (text : List ℕ) → length bytes ≤ source_limit → ReadsFirst bytes program → IsReady program → RunAnswers program s text → Answers bytes s text
-run_answers bytes program status.Done text short reads ready (body, w, main, leads, done, written) =
-    (program, body, w, record { short = short; reads = reads; derivable = ready.derivable; main = main; safe = ready.safe body main }, leads, done, written)
-run_answers bytes program status.Stopped text short reads ready (body, w, place, main, leads, stops, written) =
-    (program, body, w, place, record { short = short; reads = reads; derivable = ready.derivable; main = main; safe = ready.safe body main }, leads, stops, written)
+pub run_answers : (bytes : List ℕ) (program : Program) (s : Status) (text : List ℕ) → length bytes ≤ source_limit → IsRead bytes program → IsReady program → RunAnswers program s text → Answers bytes s text
+run_answers bytes program status.Done text short read ready (body, w, main, leads, done, written) =
+    (program, body, w, record { short = short; reads = read.reads; declared = read.declared; first = read.first; derivable = ready.derivable; main = main; safe = ready.safe body main }, leads, done, written)
+run_answers bytes program status.Stopped text short read ready (body, w, place, main, leads, stops, written) =
+    (program, body, w, place, record { short = short; reads = read.reads; declared = read.declared; first = read.first; derivable = ready.derivable; main = main; safe = ready.safe body main }, leads, stops, written)
 run_answers bytes program status.Refused text short reads ready h = absurd h
 run_answers bytes program status.Usage text short reads ready h = absurd h
 run_answers bytes program status.ReadFault text short reads ready h = absurd h
 run_answers bytes program status.WriteFault text short reads ready h = absurd h
 run_answers bytes program status.Memory text short reads ready h = absurd h
+
+-- a refusal's cause
+causes : (bytes : List ℕ) (refusal : Refusal) → length bytes ≤ source_limit → IsWrong bytes refusal → Causes bytes refusal
+causes bytes refusal.TooLong short wrong = absurd wrong
+causes bytes _ short wrong = (short, wrong)
+
+-- a refusal with its line is what the bytes answer
+pub refusal_answers : (bytes : List ℕ) (refusal : Refusal) (s : Status) (text : List ℕ) → length bytes ≤ source_limit → IsWrong bytes refusal → (s ≡ status.Refused) × (text ≡ line (refusal_text refusal)) → Answers bytes s text
+refusal_answers bytes refusal s text short wrong (same, written) = subst (λ x. Answers bytes x text) (sym same) (refusal, causes bytes refusal short wrong, written)
+
+-- .. also where they are too many
+pub long_answers : (bytes : List ℕ) (s : Status) (text : List ℕ) → source_limit < length bytes → (s ≡ status.Refused) × (text ≡ line (refusal_text refusal.TooLong)) → Answers bytes s text
+long_answers bytes s text long (same, written) = subst (λ x. Answers bytes x text) (sym same) (refusal.TooLong, long, written)
 
 -- what holds of one answer holds of it for another reason
 pub if_ok : {A E : Type 0} (P Q : A → Type 0) → ((a : A) → P a → Q a) → (r : Result A E) → IfOk r P → IfOk r Q

@@ -1,24 +1,48 @@
 -- What the parts of a call answer.
-use Rattle.std.specs.Prelude.{◌≡◌, ℕ, ◌++◌, List, Result, Ok, Err}
+use Rattle.std.specs.Prelude.{◌≡◌, ℕ, ◌++◌, true, List, Some, None, Result, Ok, Err}
 use Rattle.mz_tree.specs.declared.types.Place.{Place}
 use Rattle.mz_tree.specs.Code.{Body}
 use Rattle.mz_tree.specs.Programs.{Program}
-use Rattle.mz_tree.specs.declared.program.Program.{Program as CodeProgram}
-use Rattle.mz_tree.specs.View.{plain_program}
-use Rattle.mz_cli.specs.declared.first.Refusal.{Refusal}
-use Rattle.mz_cli.specs.declared.first.Refusal.TheVariants.{Unbuilt, Memory}
+use Rattle.mz_scope.specs.Reads.{Reads}
+use Rattle.mz_decl.specs.Places.{IsFirst}
+use Rattle.mz_decl.specs.Declarations.{Decls}
+use Rattle.mz_modes.specs.Adopted.{IsNotExclusive, Declared}
+use Rattle.mz_cli.specs.declared.refusal.Refusal.TheVariants.{NotExclusive}
+use Rattle.mz_cli.specs.declared.refusal.Stop.{Stop}
+use Rattle.mz_cli.specs.declared.refusal.Stop.TheVariants.{Refused, Memory}
 use Rattle.mz_cli.specs.declared.status.Status.{Status}
 use Rattle.mz_cli.specs.declared.status.Status.TheVariants as status
 use Rattle.mz_cli.specs.Machine.{Config, NeverWrong, LeadsTo, HasEnded, StopsAt}
 use Rattle.mz_cli.specs.Running.{IsNumbered}
-use Rattle.mz_cli.specs.Reads.{ReadsFirst, IsMain}
+use Rattle.mz_cli.specs.FirstForm.{is_first_form}
+use Rattle.mz_cli.specs.Refusals.{IsWrong, NotDeclared}
+use Rattle.mz_cli.specs.Mains.{IsMain}
 use Rattle.mz_cli.specs.Outcome.{IsDerivable, print_lines, stop_line}
 
--- the program that the bytes are a text of; or there is none
-abbrev pub ReadsOr : List ℕ → Result CodeProgram Refusal → Type 0
-ReadsOr bytes (Ok program) = ReadsFirst bytes (plain_program program)
-ReadsOr bytes (Err Unbuilt) = (program : Program) → ReadsFirst bytes program → ⊥
-ReadsOr bytes (Err Memory) = Unit {0}
+-- what a step of reading gives; or why the bytes are refused; want of memory says nothing
+abbrev pub GivesOr : {A : Type 0} → List ℕ → (A → Type 0) → Result A Stop → Type 0
+GivesOr bytes Is (Ok a) = Is a
+GivesOr bytes Is (Err (Refused refusal)) = IsWrong bytes refusal
+GivesOr bytes Is (Err Memory) = Unit {0}
+
+-- each `adopts` of the declarations names a mutable data type; or the first place of one that doesn't
+abbrev pub AreExclusive : Decls → Result (Unit {0}) Stop → Type 0
+AreExclusive decls (Ok done) = IsFirst (IsNotExclusive decls) None
+AreExclusive decls (Err (Refused (NotExclusive place))) = IsFirst (IsNotExclusive decls) (Some place)
+AreExclusive decls (Err (Refused _)) = ⊥
+AreExclusive decls (Err Memory) = Unit {0}
+
+-- the program is declared; or the first place where it isn't
+abbrev pub Declares : Program → Result (Unit {0}) Stop → Type 0
+Declares program (Ok done) = Declared program
+Declares program (Err (Refused refusal)) = NotDeclared program refusal
+Declares program (Err Memory) = Unit {0}
+
+-- the program of a text of the first form
+pub record IsRead (bytes : List ℕ) (program : Program) : Type 0 where
+  pub reads : Reads bytes program
+  pub declared : Declared program
+  pub first : is_first_form reads.surface program ≡ true
 
 -- it has a derivation, and a `main`, no run of which is ever wrong, and whose commands are numbered in order
 pub record IsReady (program : Program) : Type 0 where

@@ -1,13 +1,10 @@
 pub mod Machine
 pub mod Running
-pub mod Reading
-pub mod Grammar
-pub mod Stops
-pub mod Flattening
-pub mod Flats
-pub mod Reads
+pub mod FirstForm
+pub mod Refusals
+pub mod Mains
 pub mod Numbers
 pub mod Outcome
 pub mod Answered
-pub mod OneProgram
 pub mod OneOutcome
+pub mod OneRefusal

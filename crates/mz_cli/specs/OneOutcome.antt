@@ -1,10 +1,12 @@
 -- All runs of a program of the first form come to the same, whatever names their new blocks take.
-use Rattle.std.specs.Prelude.{◌≡◌, ℕ, List}
+use Rattle.std.specs.Prelude.{◌≡◌, ℕ, true, List}
 use Rattle.mz_tree.specs.declared.types.Place.{Place}
 use Rattle.mz_tree.specs.Code.{Body}
 use Rattle.mz_tree.specs.Programs.{Program}
+use Rattle.mz_scope.specs.Reads.{Reads}
 use Rattle.mz_cli.specs.Machine.{Config, LeadsTo, HasEnded, StopsAt}
-use Rattle.mz_cli.specs.Reads.{ReadsFirst, IsMain}
+use Rattle.mz_cli.specs.FirstForm.{is_first_form}
+use Rattle.mz_cli.specs.Mains.{IsMain}
 
 -- thread 0 comes to the same in both
 pub record ComeToOne (w v : Config) : Type 0 where
@@ -17,4 +19,4 @@ pub record ComeToOne (w v : Config) : Type 0 where
 
 -- any two runs of `main` come to the same
 abbrev pub AtMostOneOutcome : Type 0
-AtMostOneOutcome = (bytes : List ℕ) (program : Program) (body : Body) (w v : Config) → ReadsFirst bytes program → IsMain program body → LeadsTo body w → LeadsTo body v → ComeToOne w v
+AtMostOneOutcome = (bytes : List ℕ) (program : Program) (body : Body) (w v : Config) (reads : Reads bytes program) → is_first_form reads.surface program ≡ true → IsMain program body → LeadsTo body w → LeadsTo body v → ComeToOne w v

@@ -1,27 +1,28 @@
 -- What a call of the whole program answers, for which cause, and what it writes.
-use Rattle.std.specs.Prelude.{◌≡◌, ◌⊎◌, ℕ, ◌<◌, ◌≤◌, List, [], ◌∷◌, ◌++◌, length, Option, IfSome, String, string_bytes, codes, decimal}
+use Rattle.std.specs.Prelude.{◌≡◌, ◌⊎◌, ℕ, ◌≤◌, true, List, [], ◌∷◌, ◌++◌, length, Option, IfSome, String, string_bytes, codes, decimal}
 use Rattle.std.specs.declared.alloc.Global.{Global}
 use Rattle.mz_base.specs.Causes.{Rose}
 use Rattle.mz_base.specs.Told.{Gains, GainsFront}
 use Rattle.mz_tree.specs.declared.types.Place.{Place}
 use Rattle.mz_tree.specs.Code.{Body}
 use Rattle.mz_tree.specs.Programs.{Program}
+use Rattle.mz_scope.specs.Reads.{Reads}
+use Rattle.mz_modes.specs.Adopted.{Declared}
 use Rattle.mz_deriv.specs.Scripts.{Item}
 use Rattle.mz_deriv.specs.Derivable.{Derivable}
 use Rattle.mz_cli.specs.declared.status.Status.{Status}
 use Rattle.mz_cli.specs.declared.status.Status.TheVariants.{Done, Refused, Usage, Stopped, ReadFault, WriteFault, Memory}
 use Rattle.mz_cli.specs.Machine.{Config, LeadsTo, HasEnded, StopsAt, NeverWrong}
-use Rattle.mz_cli.specs.Reads.{ReadsFirst, IsMain}
+use Rattle.mz_cli.specs.declared.refusal.Refusal.{Refusal}
+use Rattle.mz_cli.specs.FirstForm.{is_first_form}
+use Rattle.mz_cli.specs.Mains.{IsMain}
+use Rattle.mz_cli.specs.Refusals.{source_limit, Causes, refusal_text}
 
--- ---- words and limits
+-- ---- words
 
 -- the program's name and `sched`
 abbrev pub IsSched : List (String Global) → Type 0
 IsSched words = (name : String Global) × (mode : String Global) × (words ≡ name ∷ mode ∷ []) × (string_bytes mode ≡ codes "sched")
-
--- the most bytes of a source
-abbrev pub source_limit : ℕ
-source_limit = 1048576
 
 -- ---- texts
 
@@ -39,27 +40,19 @@ usage_line = line (codes "usage: mezzo MODE [--heap N] [--steps N] [--tries N] [
 abbrev pub stop_line : Place → List ℕ
 stop_line place = line (codes "stopped: thread 0: arithmetic at " ++ decimal place.line ++ codes ":" ++ decimal place.col)
 
--- ---- refusals
-
--- there are more bytes than a source may have
-abbrev pub IsTooLong : List ℕ → Type 0
-IsTooLong bytes = source_limit < length bytes
-
--- there are no more, and they are no text of the first form
-abbrev pub IsUnbuilt : List ℕ → Type 0
-IsUnbuilt bytes = (length bytes ≤ source_limit) × ((program : Program) → ReadsFirst bytes program → ⊥)
-
 -- ---- runs
 
 -- the program has a derivation: by the permission rules a script leads through each of its functions
 abbrev pub IsDerivable : Program → Type 0
 IsDerivable program = (scripts : List (List Item)) × Derivable program scripts
 
--- the bytes are within the limit and a text of the first form of this program, which has a derivation, and no run of it is
--- ever wrong
+-- the bytes are within the limit and the text of this program, which is declared and of the first form and has a
+-- derivation, and no run of it is ever wrong
 pub record Runs (bytes : List ℕ) (program : Program) (body : Body) : Type 0 where
   pub short : length bytes ≤ source_limit
-  pub reads : ReadsFirst bytes program
+  pub reads : Reads bytes program
+  pub declared : Declared program
+  pub first : is_first_form reads.surface program ≡ true
   pub derivable : IsDerivable program
   pub main : IsMain program body
   pub safe : NeverWrong body
@@ -76,9 +69,8 @@ Answers bytes Done text =
 Answers bytes Stopped text =
     (program : Program) × (body : Body) × (w : Config) × (place : Place) × Runs bytes program body × LeadsTo body w
     × StopsAt w 0 place × (text ≡ print_lines w.prints ++ stop_line place)
--- the first refusal that holds
-Answers bytes Refused text =
-    (IsTooLong bytes × (text ≡ line (codes "refused: too long"))) ⊎ (IsUnbuilt bytes × (text ≡ line (codes "refused: not built yet")))
+-- it is refused: for the first cause that holds, whose line is written
+Answers bytes Refused text = (refusal : Refusal) × Causes bytes refusal × (text ≡ line (refusal_text refusal))
 Answers bytes _ text = ⊥
 
 -- the source's bytes, which are those that it tells, if it tells any

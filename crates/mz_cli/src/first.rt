@@ -1,50 +1,120 @@
-//! From the bytes of a source to its program, where they are a text of the first form.
-ghost use Rattle.std.specs.Prelude.{◌≡◌, ◌-◌, ◌^◌, ◌<◌, length, MatchOption, ℕ};
+//! From the bytes of a source to its program, where it is of the first form, or to why it is refused. Each step is one call
+//! of another crate; a step's refusals are those of that call, in the order of the steps.
+ghost use Rattle.std.specs.Prelude.{◌≡◌, ◌<◌, ◌^◌, ◌-◌, length, MatchOption};
 ghost use Rattle.mz_tree.specs.Code.{Body as PlainBody};
 ghost use Rattle.mz_tree.specs.View.{plain_program, plain_body};
-ghost use Rattle.mz_cli.specs.Reads.{IsMain};
-ghost use Rattle.mz_cli.specs.Answered.{ReadsOr};
+ghost use Rattle.mz_scope.specs.Trees.{tree_of};
+ghost use Rattle.mz_scope.specs.Flattening.{Flattens};
+ghost use Rattle.mz_decl.specs.Declarations.{IsNumbered};
+ghost use Rattle.mz_decl.specs.View.{plain_decls};
+ghost use Rattle.mz_cli.specs.Mains.{IsMain};
+ghost use Rattle.mz_cli.specs.Refusals.{HasTokens, HasTree};
+ghost use Rattle.mz_cli.specs.Answered.{GivesOr, AreExclusive, Declares, IsRead};
 
-use crate::flatten::{Unflat, flat_program};
-use crate::read::{Stop, form};
-use mz_token::{LexFault, tokens};
+use crate::form::is_first_form;
+use crate::refusal::{Refusal, Stop};
+use mz_decl::{DeclFault, Decls, well_formed};
+use mz_modes::{ModeFault, modes};
+use mz_parse::{Surface, SyntaxFault, parse};
+use mz_scope::{ScopeFault, resolve};
+use mz_token::{LexFault, Tokens, tokens};
 use mz_tree::{Body, Program};
 use std::alloc::Global;
 
-/// Why a source gives no program.
-#[derive(Clone, Copy, Debug, PartialEq, Eq)]
-pub enum Refusal {
-    /// It is no text of the first form.
-    Unbuilt,
-    /// Want of memory.
-    Memory,
+// The bytes' tokens.
+fn tokens_of(alloc: Global, bytes: &[u8]) -> Result<Tokens, Stop>
+    requires { length bytes.now < 2 ^ 32 - 1 }
+    ensures { GivesOr bytes.now (λ found. HasTokens bytes.now found) result }
+{
+    match tokens(alloc, bytes) {
+        Ok(found) => Ok(found),
+        Err(LexFault::Byte(place)) => Err(Stop::Refused(Refusal::BadByte(place))),
+        Err(LexFault::Number(place)) => Err(Stop::Refused(Refusal::BadNumber(place))),
+        Err(LexFault::NameTooLong(place)) => Err(Stop::Refused(Refusal::NameTooLong(place))),
+        Err(LexFault::Memory) => Err(Stop::Memory),
+    }
+}
+
+// The tree of the bytes' tokens.
+fn surface_of(alloc: Global, bytes: &[u8]) -> Result<Surface, Stop>
+    requires { length bytes.now < 2 ^ 32 - 1 }
+    ensures { GivesOr bytes.now (λ surface. HasTree bytes.now surface) result }
+{
+    let found = match tokens_of(alloc, bytes) {
+        Ok(found) => found,
+        Err(stop) => return Err(stop),
+    };
+    match parse(alloc, &found) {
+        Ok(surface) => Ok(surface),
+        Err(SyntaxFault::Unexpected(place)) => Err(Stop::Refused(Refusal::Unexpected(place))),
+        Err(SyntaxFault::TooDeep(place)) => Err(Stop::Refused(Refusal::TooDeep(place))),
+        Err(SyntaxFault::Memory) => Err(Stop::Memory),
+    }
+}
+
+// The tree's program.
+fn program_of(alloc: Global, surface: &Surface) -> Result<Program, Stop>
+    requires { HasTree surface.now.text surface.now }
+    ensures { GivesOr surface.now.text (λ program. Flattens (tree_of surface.now) (plain_program program)) result }
+{
+    match resolve(alloc, surface) {
+        Ok(program) => Ok(program),
+        Err(ScopeFault::Unknown(place)) => Err(Stop::Refused(Refusal::UnknownName(place))),
+        Err(ScopeFault::Twice(place)) => Err(Stop::Refused(Refusal::DeclaredTwice(place))),
+        Err(ScopeFault::Shape(place)) => Err(Stop::Refused(Refusal::WrongShape(place))),
+        Err(ScopeFault::NotExhaustive(place)) => Err(Stop::Refused(Refusal::CasesMissing(place))),
+        Err(ScopeFault::TooMany(place)) => Err(Stop::Refused(Refusal::TooMany(place))),
+        Err(ScopeFault::NoMain) => Err(Stop::Refused(Refusal::NoMain)),
+        Err(ScopeFault::Memory) => Err(Stop::Memory),
+    }
+}
+
+// Whether each `adopts` names a mutable data type.
+fn are_exclusive(alloc: Global, decls: &Decls) -> Result<(), Stop>
+    ensures { AreExclusive (plain_decls decls.now) result }
+{
+    match modes(alloc, decls) {
+        Ok(_) => Ok(()),
+        Err(ModeFault::NotExclusive(place)) => Err(Stop::Refused(Refusal::NotExclusive(place))),
+        Err(ModeFault::Memory) => Err(Stop::Memory),
+    }
+}
+
+// Whether each `adopts` of the program stands on what is mutable and names what is mutable.
+fn declare(alloc: Global, program: &Program) -> Result<(), Stop>
+    requires { IsNumbered (plain_program program.now) }
+    ensures { Declares (plain_program program.now) result }
+{
+    match well_formed(alloc, program) {
+        Ok(decls) => are_exclusive(alloc, &decls),
+        Err(DeclFault::ImmutableAdopter(place)) => {
+            Err(Stop::Refused(Refusal::ImmutableAdopter(place)))
+        }
+        Err(DeclFault::Memory) => Err(Stop::Memory),
+    }
 }
 
 /// The program of a text of the first form, which has fewer than 2^32-1 bytes.
-pub fn read_program(alloc: Global, bytes: &[u8]) -> Result<Program, Refusal>
+pub fn read_program(alloc: Global, bytes: &[u8]) -> Result<Program, Stop>
     requires { length bytes.now < 2 ^ 32 - 1 }
-    ensures { ReadsOr bytes.now result }
+    ensures { GivesOr bytes.now (λ program. IsRead bytes.now (plain_program program)) result }
 {
-    if bytes.contains(&b'/') {
-        return Err(Refusal::Unbuilt);
-    }
-    let found = match tokens(alloc, bytes) {
-        Ok(found) => found,
-        Err(LexFault::Memory) => return Err(Refusal::Memory),
-        Err(LexFault::Byte(_)) => return Err(Refusal::Unbuilt),
-        Err(LexFault::Number(_)) => return Err(Refusal::Unbuilt),
-        Err(LexFault::NameTooLong(_)) => return Err(Refusal::Unbuilt),
+    let surface = match surface_of(alloc, bytes) {
+        Ok(surface) => surface,
+        Err(stop) => return Err(stop),
     };
-    let form = match form(alloc, found.items.as_slice()) {
-        Ok(form) => form,
-        Err(Stop::Wrong(_)) => return Err(Refusal::Unbuilt),
-        Err(Stop::Memory) => return Err(Refusal::Memory),
+    let program = match program_of(alloc, &surface) {
+        Ok(program) => program,
+        Err(stop) => return Err(stop),
     };
-    match flat_program(alloc, &found, &form) {
-        Ok(program) => Ok(program),
-        Err(Unflat::NotFlat) => Err(Refusal::Unbuilt),
-        Err(Unflat::Memory) => Err(Refusal::Memory),
+    match declare(alloc, &program) {
+        Ok(()) => {}
+        Err(stop) => return Err(stop),
     }
+    if !is_first_form(&surface, &program) {
+        return Err(Stop::Refused(Refusal::Unbuilt));
+    }
+    Ok(program)
 }
 
 /// The body of the program's function `main`, the first of that name.

@@ -1,14 +1,19 @@
-//! What holds of every text of the first form and of all runs of its program.
-ghost use Rattle.mz_cli.specs.OneProgram.{AtMostOneProgram};
+//! What holds of all refusals of a source, and of all runs of a program of the first form.
 ghost use Rattle.mz_cli.specs.OneOutcome.{AtMostOneOutcome};
-
-/// A text has at most one program of the first form.
-pub fn at_most_one_program()
-    ensures { AtMostOneProgram }
-{}
+ghost use Rattle.mz_cli.specs.OneRefusal.{AtMostOneRefusal, NothingRunsAndIsRefused};
 
 /// All runs of the program's `main` come to the same, whatever names their new blocks take: they end with the same prints,
 /// or they stop at the same place with the same prints.
 pub fn at_most_one_outcome()
     ensures { AtMostOneOutcome }
+{}
+
+/// A source has at most one refusal.
+pub fn at_most_one_refusal()
+    ensures { AtMostOneRefusal }
+{}
+
+/// A source that runs has no refusal.
+pub fn nothing_runs_and_is_refused()
+    ensures { NothingRunsAndIsRefused }
 {}

@@ -1,17 +1,19 @@
 //! What the program does, from the words and the bytes to the text: it reads its source to the end, reads the text as a
 //! program, runs it, makes the whole text of its answer, and only then writes. It holds no logic of its own but the order
-//! of the refusals and the texts.
+//! of the steps.
 ghost use Rattle.std.specs.Prelude.{◌≡◌, ◌⊎◌, ◌≤◌, ◌↔◌, length, IfOk, IsTrue, string_bytes, codes};
 ghost use Rattle.mz_base.specs.Causes.{Rose};
 ghost use Rattle.mz_base.specs.Told.{Gains, GainsFront};
 ghost use Rattle.mz_tree.specs.View.{plain_program};
-ghost use Rattle.mz_cli.specs.Outcome.{IsSched, source_limit, Answers, Outcome};
+ghost use Rattle.mz_cli.specs.Outcome.{IsSched, line, Answers, Outcome};
+ghost use Rattle.mz_cli.specs.Refusals.{source_limit, Causes, refusal_text};
 ghost use Rattle.mz_cli.specs.Answered.{IsReady, RunAnswers};
 
 use crate::Status;
-use crate::first::{Refusal, main_of, read_program};
+use crate::first::{main_of, read_program};
+use crate::refusal::{Refusal, Stop};
 use crate::run::{Ending, run_body};
-use crate::text::{TOO_LONG, UNBUILT, USAGE, printed, stopped};
+use crate::text::{USAGE, printed, refused, stopped};
 use mz_base::{Gate, InputFault, Sink, Source, read_all, write_all};
 use mz_tree::{Memory, Program};
 use std::alloc::Global;
@@ -62,6 +64,17 @@ fn run_main(alloc: Global, program: &Program) -> Result<Answer, Memory>
     }
 }
 
+// A refusal and its line.
+fn refuse(alloc: Global, refusal: Refusal) -> Result<Answer, Memory>
+    ensures { IfOk result (λ answer. (answer.status ≡ Status.Refused) × (string_bytes answer.text ≡ line (refusal_text refusal))) }
+{
+    let text = refused(alloc, refusal)?;
+    Ok(Answer {
+        status: Status::Refused,
+        text,
+    })
+}
+
 // What the bytes of a source that isn't too long come to.
 fn answer_to(alloc: Global, bytes: &[u8]) -> Result<Answer, Memory>
     requires { length bytes.now ≤ source_limit }
@@ -69,11 +82,8 @@ fn answer_to(alloc: Global, bytes: &[u8]) -> Result<Answer, Memory>
 {
     match read_program(alloc, bytes) {
         Ok(program) => run_main(alloc, &program),
-        Err(Refusal::Unbuilt) => Ok(Answer {
-            status: Status::Refused,
-            text: String::from_str(alloc, UNBUILT)?,
-        }),
-        Err(Refusal::Memory) => Err(Memory),
+        Err(Stop::Refused(refusal)) => refuse(alloc, refusal),
+        Err(Stop::Memory) => Err(Memory),
     }
 }
 
@@ -93,13 +103,16 @@ fn write_out<K: Sink>(sink: &mut K, text: &str, status: Status) -> Status
 
 /// All that the program does but in the mode `run`, over any source and sink.
 ///
-/// The words are taken where they are the program's name and `sched`. Then the source is read to its end, and a text of
-/// the first form of at most 1,048,576 bytes is run, and its prints are written, each as a line. Each program that is run
-/// has a derivation by the permission rules. The answers:
+/// The words are taken where they are the program's name and `sched`. Then the source is read to its end, and as a text
+/// of the language; a text of the first form is run, and its prints are written, each as a line. Each program that is
+/// run has a derivation by the permission rules. The answers:
 ///
 /// - `Done`: the run has ended.
 /// - `Stopped`: the run stopped at an arithmetic command, and the line that tells its place follows the prints.
-/// - `Refused`: the bytes are more than that (`refused: too long`), or no text of the first form (`refused: not built yet`).
+/// - `Refused`: the text is refused, and the line of the first cause that holds is written. The order is: more than
+///   1,048,576 bytes, a byte, number or name that is no token's, a token that can't stand where it does or a bracket too
+///   many, a name or a shape, an `adopts` on what is immutable, an `adopts` of what is immutable, and a text that isn't of
+///   the first form.
 /// - `Usage`: the words aren't taken; the usage line is written, and nothing is read.
 /// - `ReadFault`: the source failed, and nothing was written.
 /// - `WriteFault`: the sink failed or took nothing; a front of the text that was to come was written.
@@ -133,7 +146,10 @@ pub fn mezzo_plain<S: Source, K: Sink>(
             Err(Memory) => Status::Memory,
         },
         Err(InputFault::ReadFault) => Status::ReadFault,
-        Err(InputFault::TooLong) => write_out(sink, TOO_LONG, Status::Refused),
+        Err(InputFault::TooLong) => match refuse(alloc, Refusal::TooLong) {
+            Ok(answer) => write_out(sink, &answer.text, answer.status),
+            Err(Memory) => Status::Memory,
+        },
         Err(InputFault::Memory) => Status::Memory,
     }
 }

@@ -1,5 +1,0 @@
-use Rattle.mz_cli.proofs.OneTexts.{one_program}
-use Rattle.mz_cli.proofs.laws.at_most_one_program.Goals as goal
-
-pub returns : goal.returns
-returns c = one_program
