@@ -13,7 +13,7 @@ use Rattle.mz_cli.specs.Running.{RunsTo}
 use Rattle.mz_cli.specs.Mains.{IsMain}
 use Rattle.mz_cli.specs.declared.refusal.Refusal.{Refusal}
 use Rattle.mz_cli.specs.declared.refusal.Refusal.TheVariants as refusal
-use Rattle.mz_cli.specs.Refusals.{source_limit, IsWrong, Causes, refusal_text}
+use Rattle.mz_cli.specs.Refusals.{source_limit, HasFault, Causes, refusal_text}
 use Rattle.mz_cli.specs.Outcome.{IsSched, line, print_lines, stop_line, Answers, AreLeft, Comes, Traffic, Outcome}
 use Rattle.mz_cli.specs.Answered.{IsRead, IsReady, RunAnswers}
 
@@ -51,12 +51,12 @@ run_answers bytes program status.WriteFault text short reads ready h = absurd h
 run_answers bytes program status.Memory text short reads ready h = absurd h
 
 -- a refusal's cause
-causes : (bytes : List ℕ) (refusal : Refusal) → length bytes ≤ source_limit → IsWrong bytes refusal → Causes bytes refusal
+causes : (bytes : List ℕ) (refusal : Refusal) → length bytes ≤ source_limit → HasFault bytes refusal → Causes bytes refusal
 causes bytes refusal.TooLong short wrong = absurd wrong
 causes bytes _ short wrong = (short, wrong)
 
 -- a refusal with its line is what the bytes answer
-pub refusal_answers : (bytes : List ℕ) (refusal : Refusal) (s : Status) (text : List ℕ) → length bytes ≤ source_limit → IsWrong bytes refusal → (s ≡ status.Refused) × (text ≡ line (refusal_text refusal)) → Answers bytes s text
+pub refusal_answers : (bytes : List ℕ) (refusal : Refusal) (s : Status) (text : List ℕ) → length bytes ≤ source_limit → HasFault bytes refusal → (s ≡ status.Refused) × (text ≡ line (refusal_text refusal)) → Answers bytes s text
 refusal_answers bytes refusal s text short wrong (same, written) = subst (λ x. Answers bytes x text) (sym same) (refusal, causes bytes refusal short wrong, written)
 
 -- .. also where they are too many

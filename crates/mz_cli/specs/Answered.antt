@@ -15,14 +15,14 @@ use Rattle.mz_cli.specs.declared.status.Status.TheVariants as status
 use Rattle.mz_cli.specs.Machine.{Config, NeverWrong, LeadsTo, HasEnded, StopsAt}
 use Rattle.mz_cli.specs.Running.{IsNumbered}
 use Rattle.mz_cli.specs.FirstForm.{is_first_form}
-use Rattle.mz_cli.specs.Refusals.{IsWrong, NotDeclared}
+use Rattle.mz_cli.specs.Refusals.{HasFault, NotDeclared}
 use Rattle.mz_cli.specs.Mains.{IsMain}
 use Rattle.mz_cli.specs.Outcome.{IsDerivable, print_lines, stop_line}
 
 -- what a step of reading gives; or why the bytes are refused; want of memory says nothing
 abbrev pub GivesOr : {A : Type 0} → List ℕ → (A → Type 0) → Result A Stop → Type 0
 GivesOr bytes Is (Ok a) = Is a
-GivesOr bytes Is (Err (Refused refusal)) = IsWrong bytes refusal
+GivesOr bytes Is (Err (Refused refusal)) = HasFault bytes refusal
 GivesOr bytes Is (Err Memory) = Unit {0}
 
 -- each `adopts` of the declarations names a mutable data type; or the first place of one that doesn't

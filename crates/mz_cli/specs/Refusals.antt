@@ -52,32 +52,32 @@ NotDeclared program _ = ⊥
 -- ---- causes
 
 -- what is wrong with bytes that aren't too many
-abbrev pub IsWrong : List ℕ → Refusal → Type 0
-IsWrong bytes TooLong = ⊥
+abbrev pub HasFault : List ℕ → Refusal → Type 0
+HasFault bytes TooLong = ⊥
 -- the bytes have no tokens
-IsWrong bytes (BadByte place) = Faults bytes (lex.Byte place)
-IsWrong bytes (BadNumber place) = Faults bytes (lex.Number place)
-IsWrong bytes (NameTooLong place) = Faults bytes (lex.NameTooLong place)
+HasFault bytes (BadByte place) = Faults bytes (lex.Byte place)
+HasFault bytes (BadNumber place) = Faults bytes (lex.Number place)
+HasFault bytes (NameTooLong place) = Faults bytes (lex.NameTooLong place)
 -- the tokens have no tree
-IsWrong bytes (Unexpected place) = (tokens : Tokens) × HasTokens bytes tokens × IsUnexpected tokens place
-IsWrong bytes (TooDeep place) = (tokens : Tokens) × HasTokens bytes tokens × IsTooDeep tokens place
+HasFault bytes (Unexpected place) = (tokens : Tokens) × HasTokens bytes tokens × IsUnexpected tokens place
+HasFault bytes (TooDeep place) = (tokens : Tokens) × HasTokens bytes tokens × IsTooDeep tokens place
 -- the tree has no program
-IsWrong bytes (UnknownName place) = IsScopeFault bytes (scope.Unknown place)
-IsWrong bytes (DeclaredTwice place) = IsScopeFault bytes (scope.Twice place)
-IsWrong bytes (WrongShape place) = IsScopeFault bytes (scope.Shape place)
-IsWrong bytes (CasesMissing place) = IsScopeFault bytes (scope.NotExhaustive place)
-IsWrong bytes (TooMany place) = IsScopeFault bytes (scope.TooMany place)
-IsWrong bytes NoMain = IsScopeFault bytes scope.NoMain
+HasFault bytes (UnknownName place) = IsScopeFault bytes (scope.Unknown place)
+HasFault bytes (DeclaredTwice place) = IsScopeFault bytes (scope.Twice place)
+HasFault bytes (WrongShape place) = IsScopeFault bytes (scope.Shape place)
+HasFault bytes (CasesMissing place) = IsScopeFault bytes (scope.NotExhaustive place)
+HasFault bytes (TooMany place) = IsScopeFault bytes (scope.TooMany place)
+HasFault bytes NoMain = IsScopeFault bytes scope.NoMain
 -- the program isn't declared
-IsWrong bytes (ImmutableAdopter place) = (program : Program) × Reads bytes program × NotDeclared program (ImmutableAdopter place)
-IsWrong bytes (NotExclusive place) = (program : Program) × Reads bytes program × NotDeclared program (NotExclusive place)
+HasFault bytes (ImmutableAdopter place) = (program : Program) × Reads bytes program × NotDeclared program (ImmutableAdopter place)
+HasFault bytes (NotExclusive place) = (program : Program) × Reads bytes program × NotDeclared program (NotExclusive place)
 -- the program is declared, and the text isn't of the first form
-IsWrong bytes Unbuilt = (program : Program) × (reads : Reads bytes program) × Declared program × (is_first_form reads.surface program ≡ false)
+HasFault bytes Unbuilt = (program : Program) × (reads : Reads bytes program) × Declared program × (is_first_form reads.surface program ≡ false)
 
 -- the first cause for which the bytes are refused
 abbrev pub Causes : List ℕ → Refusal → Type 0
 Causes bytes TooLong = source_limit < length bytes
-Causes bytes refusal = (length bytes ≤ source_limit) × IsWrong bytes refusal
+Causes bytes refusal = (length bytes ≤ source_limit) × HasFault bytes refusal
 
 -- ---- texts
 

@@ -1,7 +1,6 @@
 -- What a name of the top level stands for in the program: a constructor, or a data type.
-use Rattle.std.proofs.Common.{◌≡◌, ℕ, zero, suc, ◌<◌, Bool, true, false, if◌then◌else◌, List, [], ◌∷◌, length, Option, Some, None, refl, ap, subst}
+use Rattle.std.proofs.Common.{◌≡◌, ℕ, ◌<◌, List, length, Option, Some, None, refl, ap, subst}
 use Rattle.std.specs.Prelude.{option_map, option_and_then}
-use Rattle.std.specs.Str.{bytes_eq}
 use Rattle.mz_tree.specs.Programs.{Program}
 use Rattle.mz_scope.specs.Syntax.{Word}
 use Rattle.mz_scope.specs.Names.{Names, find, Globals, TypeEntry, TypeName, Data_name, Sig_name, data_of, ConEntry}
@@ -9,22 +8,16 @@ use Rattle.mz_scope.specs.Making.{Made}
 use Rattle.mz_scope.specs.Types.{con_by_name, data_by_name}
 use Rattle.mz_scoped.specs.Scoped.{Each}
 use Rattle.mz_scoped.proofs.Goes.{Goes, weakened, is_declared}
+use Rattle.mz_scoped.proofs.TopLists.{found_at}
 use Rattle.mz_scoped.proofs.Grounds.{IsEntry, Grounds}
 
 -- ---- what holds of each member of a list holds of what is found in it
 
--- of a list, at its first member or behind it
-found_if : {A : Type 0} (P : A → Type 0) (b : Bool) (here a : A) (o : Option A) → (if b then Some here else o) ≡ Some a → P here → (o ≡ Some a → P a) → P a
-found_if P true here a o is first later =
-    let same : here ≡ a = cc in
-    subst P same first
-found_if P false here a o is first later = later is
-
--- by going along the list
+-- at the place where it was found
 pub found_holds : {A : Type 0} (P : A → Type 0) (list : Names A) (name : List ℕ) (a : A) → Each (λ _ (one : List ℕ × A). P one.1) list → find list name ≡ Some a → P a
-found_holds P [] name a all is = cc
-found_holds P (one ∷ rest) name a all is =
-    found_if P (bytes_eq one.0 name) one.1 a (find rest name) is (all zero one refl) (found_holds P rest name a (λ k b at. all (suc k) b at))
+found_holds P list name a all is =
+    let found = found_at list name a is in
+    subst P found.value (all found.place found.one found.there)
 
 -- ---- one that is looked up
 

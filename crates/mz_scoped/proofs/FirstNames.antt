@@ -11,6 +11,7 @@ use Rattle.mz_scope.specs.Making.{Made}
 use Rattle.mz_scope.specs.Declarations.{is_other, declares}
 use Rattle.mz_scoped.specs.Scoped.{Each, AreApart}
 use Rattle.mz_scoped.proofs.Goes.{Goes, first_and, weakened, not_so}
+use Rattle.mz_scoped.proofs.TopLists.{FoundAt, found_at}
 
 -- no earlier declaration has the name, and there are not too many
 abbrev pub IsNew : Option ℕ → ℕ → ℕ → Type 0
@@ -45,35 +46,18 @@ find_some (x ∷ rest) zero one at =
     some_if (bytes_eq x.0 one.0) x.1 (find rest one.0) (λ not_here. absurd (true≢false (sym here ∙ not_here)))
 find_some (x ∷ rest) (suc k) one at = some_if (bytes_eq x.0 one.0) x.1 (find rest one.0) (λ _. find_some rest k one at)
 
--- what is found stands somewhere
-abbrev Stands : {A : Type 0} → Names A → A → Type 0
-Stands {A = A} names a = (k : ℕ) × (one : List ℕ × A) × (slice_get names k ≡ Some one) × (one.1 ≡ a)
-
--- it stands here, or later on
-stands_if : {A : Type 0} (b : Bool) (x : List ℕ × A) (rest : Names A) (a : A) (o : Option A) → (if b then Some x.1 else o) ≡ Some a → (o ≡ Some a → Stands rest a) → Stands (x ∷ rest) a
-stands_if true x rest a o is later =
-    let same : x.1 ≡ a = cc in
-    (zero, x, refl, same)
-stands_if false x rest a o is later =
-    let there : Stands rest a = later is in
-    (suc there.0, there.1, there.2, there.3)
-
-pub found_place : {A : Type 0} (names : Names A) (q : List ℕ) (a : A) → find names q ≡ Some a → Stands names a
-found_place [] q a is = cc
-found_place (x ∷ rest) q a is = stands_if (bytes_eq x.0 q) x rest a (find rest q) is (found_place rest q a)
-
 -- a name that no earlier declaration has stands for what is declared here
 pub first_found : {A : Type 0} (names : Names A) (number : A → ℕ) → Each (λ k (one : List ℕ × A). number one.1 ≡ k) names → (k : ℕ) (one : List ℕ × A) → slice_get names k ≡ Some one → is_other (option_map number (find names one.0)) k ≡ false
     → find names one.0 ≡ Some one.1
 first_found names number numbers k one at none =
     let found : _ = find_some names k one at in
-    let place : Stands names found.0 = found_place names one.0 found.0 found.1 in
-    let there : number place.1.1 ≡ place.0 = numbers place.0 place.1 place.2 in
+    let at_first : FoundAt names found.0 = found_at names one.0 found.0 found.1 in
+    let there : number at_first.one.1 ≡ at_first.place = numbers at_first.place at_first.one at_first.there in
     let here : number found.0 ≡ k = is_number (option_map number (find names one.0)) k (number found.0) none (ap (option_map number) found.1) in
-    let same_number : place.0 ≡ k = sym there ∙ ap number place.3 ∙ here in
-    let both : Some place.1 ≡ Some one = sym place.2 ∙ ap (slice_get names) same_number ∙ at in
-    let same : place.1 ≡ one = cc in
-    found.1 ∙ ap Some (sym place.3 ∙ ap (λ (x : _). x.1) same)
+    let same_number : at_first.place ≡ k = sym there ∙ ap number at_first.value ∙ here in
+    let both : Some at_first.one ≡ Some one = sym at_first.there ∙ ap (slice_get names) same_number ∙ at in
+    let same : at_first.one ≡ one = cc in
+    found.1 ∙ ap Some (sym at_first.value ∙ ap (λ (x : _). x.1) same)
 
 -- names that each were declared first with their own number are apart
 pub names_apart : {A : Type 0} (name : A → List ℕ) (first : List ℕ → Option ℕ) (all : List A) → ((k : ℕ) (a : A) → slice_get all k ≡ Some a → (n : ℕ) × (first (name a) ≡ Some n)) → Each (λ k a. is_other (first (name a)) k ≡ false) all

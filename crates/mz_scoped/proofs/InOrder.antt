@@ -89,11 +89,6 @@ pub from_all : {A : Type 0} (P : ℕ → A → Type 0) (Q : A → Type 0) → ((
 from_all P Q follows n [] each = tt
 from_all P Q follows n (a ∷ rest) each = (follows n a each.0, from_all P Q follows (n + 1) rest each.1)
 
--- all of two lists
-pub all_append : {A : Type 0} (P : A → Type 0) (some more : List A) → AllOf P some → AllOf P more → AllOf P (some ++ more)
-all_append P [] more first later = later
-all_append P (a ∷ some) more first later = (first.0, all_append P some more first.1 later)
-
 -- ---- lists that look alike
 
 -- what stands at a place of the one, and at that place of the other

@@ -1,5 +1,5 @@
 -- Lists whose members pass a test or have a property, and how often a number stands in a list.
-use Rattle.std.proofs.Common.{◌≡◌, ℕ, zero, suc, ◌+◌, ◌<◌, ◌≤◌, ◌==◌, Bool, true, false, cond, ◌||◌, List, [], ◌∷◌, map, length, filter, count_by, Some, slice_get, refl, ap, ◌∙◌, subst, arith}
+use Rattle.std.proofs.Common.{◌≡◌, ℕ, zero, suc, ◌+◌, ◌≤◌, ◌==◌, Bool, true, false, cond, ◌||◌, List, [], ◌∷◌, map, filter, count_by, Some, slice_get, refl, ap, ◌∙◌, subst, arith}
 use Rattle.std.specs.List.{list_any}
 use Rattle.std.proofs.lemmas.Bool.{both_ways, or_parts}
 use Rattle.std.proofs.lemmas.Bool.Decides.{Decides-eqb}
@@ -10,12 +10,6 @@ use Rattle.mz_scoped.proofs.Proper.{AllOf}
 
 -- ---- members
 
--- a place before the end has a member
-pub stands_at : {A : Type 0} (list : List A) (k : ℕ) → k < length list → (a : A) × (slice_get list k ≡ Some a)
-stands_at [] k less = absurd (omega arith)
-stands_at (x ∷ rest) zero less = (x, refl)
-stands_at (x ∷ rest) (suc k) less = stands_at rest k (omega arith)
-
 -- where no member passes a test, this one doesn't
 pub none_passes : {A : Type 0} (test : A → Bool) (list : List A) (k : ℕ) (a : A) → list_any test list ≡ false → slice_get list k ≡ Some a → test a ≡ false
 none_passes test [] k a none at = cc
@@ -25,14 +19,6 @@ none_passes test (x ∷ rest) zero a none at =
 none_passes test (x ∷ rest) (suc k) a none at = none_passes test rest k a (or_parts (test x) (list_any test rest) none).1 at
 
 module _ {A : Type 0} (P : A → Type 0) where
-  -- what holds of all members holds of the one at a place
-  pub member_of : (list : List A) → AllOf P list → (k : ℕ) (a : A) → slice_get list k ≡ Some a → P a
-  member_of [] all k a at = cc
-  member_of (x ∷ rest) all zero a at =
-      let same : x ≡ a = cc in
-      subst P same all.0
-  member_of (x ∷ rest) all (suc k) a at = member_of rest all.1 k a at
-
   -- what holds of what each name stands for holds of all these
   pub all_values : (names : Names A) → ((k : ℕ) (one : List ℕ × A) → slice_get names k ≡ Some one → P one.1) → AllOf P (map (λ (one : List ℕ × A). one.1) names)
   all_values [] all = tt

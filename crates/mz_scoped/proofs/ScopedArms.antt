@@ -10,7 +10,8 @@ use Rattle.mz_scope.specs.Bodies.{is_number_among, lacks_one, with_number, match
 use Rattle.mz_scoped.specs.Scoped.{IsConOf, AreAll}
 use Rattle.mz_scoped.proofs.Proper.{AllOf}
 use Rattle.mz_scoped.proofs.Grounds.{IsEntry, Grounds}
-use Rattle.mz_scoped.proofs.Numbers.{stands_at, none_passes, member_of, IsOnce, once_more, just_once}
+use Rattle.mz_scoped.proofs.Numbers.{none_passes, IsOnce, once_more, just_once}
+use Rattle.mz_scoped.proofs.TopLists.{all_at, stands}
 
 -- a first test holds and both don't, so the second doesn't
 second_fails : (a b : Bool) → a ≡ true → (a && not b) ≡ false → b ≡ true
@@ -55,15 +56,16 @@ module _ (p : Program) (g : Globals) (grounds : Grounds p g) where
   none_lacks : (d : ℕ) (named : List ℕ) → lacks_one g (Some d) named ≡ false → (con : ℕ) → IsConOf p d con → is_number_among named con ≡ true
   none_lacks d named none con is =
       let within : con < length p.cons = slice_get_within p.cons con is.found is.declared in
-      let one = stands_at g.cons con (omega (arith, within, grounds.all)) in
-      let own = grounds.cons con one.0 one.1 in
-      let variety : one.0.1.variety ≡ d = variety_is d con one.0.1 own.0 own.1 is in
-      let both = none_passes (λ (c : List ℕ × ConEntry). (c.1.variety == d) && not (is_number_among named c.1.number)) g.cons con one.0 none one.1 in
-      subst (λ n. is_number_among named n ≡ true) own.0 (second_fails (one.0.1.variety == d) (is_number_among named one.0.1.number) ((Decides-eqb one.0.1.variety d).1 variety) both)
+      let at = stands g.cons con (omega (arith, within, grounds.all)) in
+      let one = at.member in
+      let own = grounds.cons con one at.there in
+      let variety : one.1.variety ≡ d = variety_is d con one.1 own.0 own.1 is in
+      let both = none_passes (λ (c : List ℕ × ConEntry). (c.1.variety == d) && not (is_number_among named c.1.number)) g.cons con one none at.there in
+      subst (λ n. is_number_among named n ≡ true) own.0 (second_fails (one.1.variety == d) (is_number_among named one.1.number) ((Decides-eqb one.1.variety d).1 variety) both)
 
   cases_all : (d : ℕ) (arms : Arms) → lacks_one g (Some d) (arm_cons g arms) ≡ false → AreWellPlaced p g (Some d) [] arms → AreAll p d (arm_cons g arms)
   cases_all d arms none placed = record {
-    only = member_of (IsConOf p d) (arm_cons g arms) (all_of p g d [] arms placed);
+    only = λ k con at. all_at (IsConOf p d) (arm_cons g arms) k con (all_of p g d [] arms placed) at;
     once = λ con is. just_once con (arm_cons g arms) (none_lacks d (arm_cons g arms) none con is) (once_in p g con d [] arms placed).1;
   }
 

@@ -13,7 +13,7 @@ use Rattle.mz_scoped.proofs.Proper.{IsProperFun}
 use Rattle.mz_scoped.proofs.Grounds.{Grounds}
 use Rattle.mz_scoped.proofs.Goes.{Goes, first_then, first_and, weakened, framed, given, not_so, is_declared}
 use Rattle.mz_scoped.proofs.InOrder.{few_places, same_place}
-use Rattle.mz_scoped.proofs.Numbers.{stands_at}
+use Rattle.mz_scoped.proofs.TopLists.{Stands, stands}
 use Rattle.mz_scoped.proofs.FirstNames.{IsNew, declares_goes}
 use Rattle.mz_scoped.proofs.AddedPairs.{HasPairs, paired_behind}
 use Rattle.mz_scoped.proofs.ScopedBodies.{IsScopedBody, body_goes}
@@ -54,10 +54,10 @@ module _ (p : Program) (g : Globals) where
     -- a name of a signature that is found
     signed_is : Counts → (name : List ℕ) (s : ℕ) → sig_number g.types name ≡ Some s → Signed name s
     signed_is counts name s is =
-        let one : (sig : Sig) × (slice_get p.sigs s ≡ Some sig) = stands_at p.sigs s (sig_found name (find g.types name) s refl is) in
-        let params : (b : List Word) × (slice_get g.params s ≡ Some b) × (one.0.count ≡ length b) = same_place (λ (s : Sig). s.count) length p.sigs g.params counts s one.0 one.1 in
+        let one : Stands p.sigs s = stands p.sigs s (sig_found name (find g.types name) s refl is) in
+        let params : (b : List Word) × (slice_get g.params s ≡ Some b) × (one.member.count ≡ length b) = same_place (λ (s : Sig). s.count) length p.sigs g.params counts s one.member one.there in
         let read : params_by_name g name ≡ params.0 = ap (λ o. unwrap_or (option_and_then (slice_get g.params) o) []) is ∙ ap (λ o. unwrap_or o []) params.1 in
-        record { sig = one.0; signed = one.1; count = ap length read ∙ sym params.2 }
+        record { sig = one.member; signed = one.there; count = ap length read ∙ sym params.2 }
 
     -- function f
     pub record FunDone (f : ℕ) (x : FunTree) (fun : Fun) : Type 0 where

@@ -14,8 +14,8 @@ use Rattle.mz_scoped.proofs.Proper.{AllOf, IsProperType, IsProperAtom, AreProper
 use Rattle.mz_scoped.proofs.Grounds.{Grounds, AreIn}
 use Rattle.mz_scoped.proofs.Goes.{Goes, first_then, first_and, weakened, framed, given, not_so}
 use Rattle.mz_scoped.proofs.EachMember.{each_more}
-use Rattle.mz_scoped.proofs.Numbers.{member_of}
-use Rattle.mz_scoped.proofs.InOrder.{EachFrom, few_members, from_all, all_append}
+use Rattle.mz_scoped.proofs.TopLists.{all_together, all_at}
+use Rattle.mz_scoped.proofs.InOrder.{EachFrom, few_members, from_all}
 use Rattle.mz_scoped.proofs.FirstNames.{IsNew, declares_goes}
 use Rattle.mz_scoped.proofs.AddedPairs.{HasPairs, paired}
 use Rattle.mz_scoped.proofs.BoundBelow.{bound_below, words_in, words_and_last}
@@ -100,7 +100,7 @@ module _ (p : Program) (g : Globals) (grounds : Grounds p g) where
       let long : length of_params ≡ length x.params = params.long in
       record {
         name = proper.0;
-        needs = member_of fits (of_params ++ others) (all_append fits of_params others (from_all with_number fits (λ k n is. is.0) 0 of_params params.each) needs);
+        needs = λ k n at. all_at fits (of_params ++ others) k n (all_together fits of_params others (from_all with_number fits (λ k n is. is.0) 0 of_params params.each) needs) at;
         gives = each_more (IsAtomWithin p 200 (names_below (length x.params + 1))) a gives first more;
         few = omega (arith, few, long);
       }
