@@ -3,9 +3,9 @@ use Rattle.std.proofs.Common.{ℕ, true, false, ◌&&◌, ◌==◌, List, [], �
 use Rattle.std.specs.Cmp.{second_so, first_so}
 use Rattle.std.proofs.Math.Bool.{true≢false}
 use Rattle.std.proofs.lemmas.Bool.{eqb-true}
-use Rattle.mz_token.specs.Bytes.{is_blank, is_inside_line, is_small, is_capital, is_digit, is_name_byte}
-use Rattle.mz_token.specs.Tables.{mark_texts, number_in}
-use Rattle.mz_token.specs.Shapes.{Blank_shape, Comment_shape, Lower_shape, Upper_shape, Number_shape, begins, begins_comment, whole, mark_shape, shape_of}
+use Rattle.mz_tree.specs.Bytes.{is_blank, is_inside_line, is_small, is_capital, is_digit, is_name_byte}
+use Rattle.mz_tree.specs.Spellings.{mark_texts, number_in}
+use Rattle.mz_tree.specs.Shapes.{Blank_shape, Comment_shape, Lower_shape, Upper_shape, Number_shape, begins, begins_comment, whole, mark_shape, shape_of}
 use Rattle.mz_token.proofs.Runs.{run, run_begins}
 
 -- ---- of a whole text

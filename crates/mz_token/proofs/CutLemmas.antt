@@ -9,7 +9,8 @@ use Rattle.mz_token.specs.declared.token.LexFault.{LexFault}
 use Rattle.mz_token.specs.declared.token.LexFault.TheVariants as fault
 use Rattle.mz_token.specs.declared.pieces.Cause.{Cause}
 use Rattle.mz_token.specs.declared.pieces.Cause.TheVariants.{Byte, Number, NameTooLong}
-use Rattle.mz_token.specs.Shapes.{shape_of, kind_of, IsLargeNumber, IsLongName}
+use Rattle.mz_token.specs.Shapes.{kind_of, IsLargeNumber, IsLongName}
+use Rattle.mz_tree.specs.Shapes.{shape_of}
 use Rattle.mz_token.specs.Places.{place_of}
 use Rattle.mz_token.specs.Tokens.{InOrder, IsWithin}
 use Rattle.mz_token.specs.Lexes.{Piece, joined, IsPiece, IsCut, with_token, tokens_after, Lexes, NoPiece, Over, FaultsAt, Faults, HasCause, Gives, Refuses}
@@ -82,7 +83,7 @@ pub scanned_rest : (bytes : List ℕ) (at : ℕ) (tokens : List Token) (place : 
 scanned_rest bytes at tokens place s = ap (λ n. drop n bytes) s.reached ∙ ap (drop (length (joined s.pieces))) s.all ∙ drop-append_seam (joined s.pieces) s.rest
 
 -- a piece has at least one byte
-piece_some : (p : Piece) (rest : List ℕ) → IsPiece p rest → 0 < length p.text
+pub piece_some : (p : Piece) (rest : List ℕ) → IsPiece p rest → 0 < length p.text
 piece_some p rest i = by_text p.text i.longest.shaped
   where
     by_text : (text : List ℕ) → shape_of text ≡ Some p.shape → 0 < length text

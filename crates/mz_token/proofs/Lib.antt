@@ -5,3 +5,4 @@ pub mod Marks
 pub mod Unique
 pub mod PlaceLemmas
 pub mod CutLemmas
+pub mod EachText

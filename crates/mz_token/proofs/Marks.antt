@@ -6,8 +6,8 @@ use Rattle.std.specs.Str.{bytes_eq}
 use Rattle.std.proofs.Math.Bool.{and-false}
 use Rattle.std.proofs.lemmas.Bool.{leb-true}
 use Rattle.mz_token.specs.declared.token.Kind.TheVariants as kind
-use Rattle.mz_token.specs.Tables.{mark_texts, number_in}
-use Rattle.mz_token.specs.Shapes.{Mark_shape, mark_shape, shape_of}
+use Rattle.mz_tree.specs.Spellings.{mark_texts, number_in}
+use Rattle.mz_tree.specs.Shapes.{Mark_shape, mark_shape, shape_of}
 use Rattle.mz_token.specs.Lexes.{NoPiece}
 use Rattle.mz_token.specs.Fronts.{BeginsWith, IsOther}
 use Rattle.mz_token.proofs.Classes.{mark_text}

@@ -4,7 +4,7 @@ use Rattle.std.specs.List.{suffix_len}
 use Rattle.std.proofs.lemmas.List.{reverse-append}
 use Rattle.std.proofs.lemmas.List.Sums.{sum_by_push, count_by-le-length, suffix_len-le-length}
 use Rattle.mz_tree.specs.declared.types.Place.{Place}
-use Rattle.mz_token.specs.Bytes.{is_inside_line}
+use Rattle.mz_tree.specs.Bytes.{is_inside_line}
 use Rattle.mz_token.specs.Places.{place_of}
 
 abbrev place_at : ℕ → ℕ → Place

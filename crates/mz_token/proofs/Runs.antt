@@ -3,7 +3,8 @@ use Rattle.std.proofs.Common.{ℕ, get_or, ◌+◌, ◌<◌, Bool, true, false, 
 use Rattle.std.proofs.lemmas.List.Folds.{list_all-append, length-prefix_len}
 use Rattle.std.specs.List.{list_all, prefix_len}
 use Rattle.mz_token.specs.declared.token.Kind.{Kind}
-use Rattle.mz_token.specs.Shapes.{Shape, begins, whole, shape_of, IsLongest, IsLawful, kind_of}
+use Rattle.mz_token.specs.Shapes.{IsLongest, IsLawful, kind_of}
+use Rattle.mz_tree.specs.Shapes.{Shape, begins, whole, shape_of}
 use Rattle.mz_token.specs.Lexes.{Over}
 use Rattle.mz_token.specs.Fronts.{BeginsWith}
 

@@ -2,7 +2,8 @@
 use Rattle.std.proofs.Common.{ℕ, List, [], ◌∷◌, ◌++◌, ◌≡◌, ◌⊎◌, inl, inr, Some, None, refl, sym, ap, ◌∙◌, subst, append-nil, append_assoc, arith}
 use Rattle.mz_tree.specs.declared.types.Place.{Place}
 use Rattle.mz_token.specs.declared.token.LexFault.TheVariants.{Byte, Number, NameTooLong, Memory}
-use Rattle.mz_token.specs.Shapes.{Shape, Blank_shape, Comment_shape, Lower_shape, Upper_shape, Number_shape, Mark_shape, shape_of, IsLongest, IsLawful, IsLongName, IsLargeNumber}
+use Rattle.mz_token.specs.Shapes.{IsLongest, IsLawful, IsLongName, IsLargeNumber}
+use Rattle.mz_tree.specs.Shapes.{Shape, Blank_shape, Comment_shape, Lower_shape, Upper_shape, Number_shape, Mark_shape, shape_of}
 use Rattle.mz_token.specs.Places.{place_of}
 use Rattle.mz_token.specs.Lexes.{Piece, joined, IsCut, tokens_after, Lexes, NoPiece, Over, FaultsAt}
 use Rattle.mz_token.specs.Laws.{AtMostOneList, AtMostOneFault, NoListAndFault}

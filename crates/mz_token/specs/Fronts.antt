@@ -7,8 +7,9 @@ use Rattle.mz_token.specs.declared.token.LexFault.{LexFault}
 use Rattle.mz_token.specs.declared.token.LexFault.TheVariants as fault
 use Rattle.mz_token.specs.declared.pieces.Cause.{Cause}
 use Rattle.mz_token.specs.declared.pieces.Cause.TheVariants.{Byte, Number, NameTooLong}
-use Rattle.mz_token.specs.Bytes.{is_blank, is_small, is_capital, is_digit}
-use Rattle.mz_token.specs.Shapes.{IsLongName, IsLargeNumber, begins, begins_comment, kind_of}
+use Rattle.mz_tree.specs.Bytes.{is_blank, is_small, is_capital, is_digit}
+use Rattle.mz_token.specs.Shapes.{IsLongName, IsLargeNumber, kind_of}
+use Rattle.mz_tree.specs.Shapes.{begins, begins_comment}
 use Rattle.mz_token.specs.Lexes.{Piece, IsPiece, NoPiece, Over}
 
 -- a lawful piece of this kind and size stands at the front

@@ -1,5 +1,5 @@
 -- What holds of every text.
-use Rattle.std.specs.Prelude.{◌≡◌, ℕ, List}
+use Rattle.std.specs.Prelude.{◌≡◌, ℕ, List, ◌⊎◌}
 use Rattle.mz_token.specs.declared.token.Token.{Token}
 use Rattle.mz_token.specs.declared.token.LexFault.{LexFault}
 use Rattle.mz_token.specs.Lexes.{Lexes, Faults}
@@ -15,3 +15,7 @@ AtMostOneFault = (bytes : List ℕ) (fault other : LexFault) → Faults bytes fa
 -- a text with a fault has no list of tokens
 abbrev pub NoListAndFault : Type 0
 NoListAndFault = (bytes : List ℕ) (tokens : List Token) (fault : LexFault) → Lexes bytes tokens → Faults bytes fault → ⊥
+
+-- a text has a list of tokens or a fault
+abbrev pub TokensOrFault : Type 0
+TokensOrFault = (bytes : List ℕ) → ((tokens : List Token) × Lexes bytes tokens) ⊎ ((fault : LexFault) × Faults bytes fault)

@@ -6,7 +6,8 @@ use Rattle.mz_token.specs.declared.token.Token.{Token}
 use Rattle.mz_token.specs.declared.token.Tokens.{Tokens}
 use Rattle.mz_token.specs.declared.token.LexFault.{LexFault}
 use Rattle.mz_token.specs.declared.token.LexFault.TheVariants.{Byte, Number, NameTooLong, Memory}
-use Rattle.mz_token.specs.Shapes.{Shape, shape_of, IsLongest, IsLawful, IsLongName, IsLargeNumber, kind_of}
+use Rattle.mz_token.specs.Shapes.{IsLongest, IsLawful, IsLongName, IsLargeNumber, kind_of}
+use Rattle.mz_tree.specs.Shapes.{Shape, shape_of}
 use Rattle.mz_token.specs.Places.{place_of}
 
 pub record Piece : Type 0 where

@@ -1,5 +1,3 @@
-pub mod Bytes
-pub mod Tables
 pub mod Shapes
 pub mod Places
 pub mod Tokens

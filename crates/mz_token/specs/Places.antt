@@ -2,7 +2,7 @@
 use Rattle.std.specs.Prelude.{ℕ, ◌+◌, ◌==◌, List, count_by}
 use Rattle.std.specs.List.{suffix_len}
 use Rattle.mz_tree.specs.declared.types.Place.{Place}
-use Rattle.mz_token.specs.Bytes.{is_inside_line}
+use Rattle.mz_tree.specs.Bytes.{is_inside_line}
 
 -- the place of what stands after these bytes: the line by the line ends, the column by the bytes after the last of them
 abbrev pub place_of : List ℕ → Place

@@ -1,6 +1,6 @@
 ghost use Rattle.std.specs.Prelude.{◌≡◌, ◌≤◌, length};
 ghost use Rattle.std.specs.List.{prefix_len};
-ghost use Rattle.mz_token.specs.Bytes.{is_blank, is_inside_line, is_small, is_capital, is_digit, is_name_byte};
+ghost use Rattle.mz_tree.specs.Bytes.{is_blank, is_inside_line, is_small, is_capital, is_digit, is_name_byte};
 
 pub fn blank(byte: u8) -> bool
     ensures { result ≡ is_blank byte }

@@ -1,4 +1,5 @@
-ghost use Rattle.mz_token.specs.Laws.{AtMostOneList, AtMostOneFault, NoListAndFault};
+//! What holds of every text: it has one list of tokens, or one fault.
+ghost use Rattle.mz_token.specs.Laws.{AtMostOneList, AtMostOneFault, NoListAndFault, TokensOrFault};
 
 /// A text has at most one list of tokens.
 pub fn at_most_one_list()
@@ -13,4 +14,9 @@ pub fn at_most_one_fault()
 /// A text with a fault has no list of tokens.
 pub fn no_list_and_fault()
     ensures { NoListAndFault }
+{}
+
+/// Each text has a list of tokens or a fault.
+pub fn tokens_or_fault()
+    ensures { TokensOrFault }
 {}

@@ -17,7 +17,7 @@ mod scan;
 mod tables;
 mod token;
 
-pub use laws::{at_most_one_fault, at_most_one_list, no_list_and_fault};
+pub use laws::{at_most_one_fault, at_most_one_list, no_list_and_fault, tokens_or_fault};
 pub use scan::tokens;
 pub use token::{Kind, LexFault, Token, Tokens};
 

@@ -1,6 +1,6 @@
 ghost use Rattle.std.specs.Prelude.{◌≡◌, ◌<◌, ◌≤◌, ◌^◌, length, take, Some, None, IfSome, IfNone, MatchOption, MatchResult};
 ghost use Rattle.mz_token.specs.Shapes.{value_of, key_or_lower};
-ghost use Rattle.mz_token.specs.Tables.{key_texts, mark_texts, number_in};
+ghost use Rattle.mz_tree.specs.Spellings.{key_texts, mark_texts, number_in};
 ghost use Rattle.mz_token.specs.Lexes.{NoPiece};
 ghost use Rattle.mz_token.specs.Fronts.{BeginsWith, IsOther, Stops, fault_at};
 ghost use Rattle.mz_token.specs.declared.token.Kind.TheVariants.{Mark};

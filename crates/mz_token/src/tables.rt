@@ -1,5 +1,5 @@
 ghost use Rattle.std.specs.Prelude.{◌≡◌, ◌≤◌, length, map};
-ghost use Rattle.mz_token.specs.Tables.{key_texts, mark_texts, number_in};
+ghost use Rattle.mz_tree.specs.Spellings.{key_texts, mark_texts, number_in};
 
 const KEYS: [&[u8]; 28] = [
     b"data",

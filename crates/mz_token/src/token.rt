@@ -6,6 +6,7 @@ use crate::scan::place_after;
 use mz_tree::{Place, Text};
 use sqlite_items::Items;
 use std::alloc::AllocError;
+use thiserror::Error;
 
 /// What a token is. A key and a mark hold their numbers in their tables, from 0.
 #[derive(Clone, Copy, Debug, PartialEq, Eq)]
@@ -102,15 +103,19 @@ impl Tokens {
 }
 
 /// Why a text has no tokens, with the first place where no lawful piece stands.
-#[derive(Clone, Copy, Debug, PartialEq, Eq)]
+#[derive(Clone, Copy, Debug, PartialEq, Eq, Error)]
 pub enum LexFault {
     /// No piece begins there.
+    #[error("no token begins with the byte at {0}")]
     Byte(Place),
     /// A number over 2^64-1.
+    #[error("number above 18446744073709551615 at {0}")]
     Number(Place),
     /// A name of more than 64 bytes.
+    #[error("name of more than 64 bytes at {0}")]
     NameTooLong(Place),
     /// Want of memory.
+    #[error("not enough memory to hold the tokens")]
     Memory,
 }
 

@@ -1,9 +1,10 @@
 -- Each kind of piece, by the class of the first byte.
 use Rattle.std.proofs.Common.{◌≡◌, ◌<◌, ◌^◌, true, false, Some, None, ap, sym, ◌∙◌, refl, arith}
 use Rattle.std.proofs.lemmas.List.Folds.{length-prefix_len}
-use Rattle.mz_token.specs.Bytes.{is_blank, is_inside_line, is_small, is_capital, is_digit, is_name_byte}
-use Rattle.mz_token.specs.Tables.{key_texts, number_in}
-use Rattle.mz_token.specs.Shapes.{Blank_shape, Comment_shape, Lower_shape, Upper_shape, Number_shape, begins_comment, value_of, key_or_lower, IsLongName, IsLargeNumber}
+use Rattle.mz_tree.specs.Bytes.{is_blank, is_inside_line, is_small, is_capital, is_digit, is_name_byte}
+use Rattle.mz_tree.specs.Spellings.{key_texts, number_in}
+use Rattle.mz_token.specs.Shapes.{value_of, key_or_lower, IsLongName, IsLargeNumber}
+use Rattle.mz_tree.specs.Shapes.{Blank_shape, Comment_shape, Lower_shape, Upper_shape, Number_shape, begins_comment}
 use Rattle.mz_token.specs.declared.token.Kind.TheVariants as kind
 use Rattle.mz_token.proofs.Runs.{run, run_found, run_over, first_is, front_is_run}
 use Rattle.mz_token.proofs.Classes.{blank_run, lower_run, upper_run, number_run, comment_run}

@@ -1,7 +1,7 @@
 use Rattle.std.proofs.Common.{◌≡◌, drop, map}
 use Rattle.std.specs.List.{position_from}
 use Rattle.std.specs.Str.{bytes_eq}
-use Rattle.mz_token.specs.Tables.{number_in}
+use Rattle.mz_tree.specs.Spellings.{number_in}
 use Rattle.mz_token.proofs.tables.number_of.Given as goal
 
 abbrev pub invariant-loop-number : goal.invariant-loop-number
