@@ -5,7 +5,7 @@ use Rattle.mz_grammar.specs.Wholes.{Fits, Begins, BreaksAt, IsFirstWrong, IsFirs
 use Rattle.mz_grammar.proofs.Readers.{room-append, room-none}
 
 -- of two fronts of one list one goes on from the other: token by token
-fronts : {T : Type 0} (x r y s : List T) → x ++ r ≡ y ++ s → ((z : List T) × (y ≡ x ++ z) × (r ≡ z ++ s)) ⊎ ((z : List T) × (x ≡ y ++ z) × (s ≡ z ++ r))
+pub fronts : {T : Type 0} (x r y s : List T) → x ++ r ≡ y ++ s → ((z : List T) × (y ≡ x ++ z) × (r ≡ z ++ s)) ⊎ ((z : List T) × (x ≡ y ++ z) × (s ≡ z ++ r))
 fronts [] r y s e = inl (y, refl, e)
 fronts (t ∷ x) r [] s e = inr (t ∷ x, refl, sym e)
 fronts {T} (t ∷ x) r (u ∷ y) s e =

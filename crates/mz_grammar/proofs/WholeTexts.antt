@@ -1,12 +1,12 @@
 -- The contract of a call that parses a whole text, by what its reading function gives; and the promises of a reader.
-use Rattle.std.proofs.Common.{◌≡◌, ℕ, List, [], ◌∷◌, length, Option, None, Result, Ok, Err, refl, sym, ap, ◌∙◌}
+use Rattle.std.proofs.Common.{◌≡◌, ℕ, List, [], ◌∷◌, length, Option, None, Result, Ok, Err, refl, sym, ap, ◌∙◌, ◌⊎◌, inl, inr}
 use Rattle.mz_grammar.specs.Reading.{Read, Fault, Wrong, Deep}
 use Rattle.mz_grammar.specs.Brackets.{Turn}
 use Rattle.mz_grammar.specs.Readers.{Reads}
-use Rattle.mz_grammar.specs.Wholes.{Fits}
+use Rattle.mz_grammar.specs.Wholes.{Fits, HasFault}
 use Rattle.mz_grammar.specs.Answers.{Stopped, Unexpected, Too_deep, No_memory, Stops}
 use Rattle.mz_grammar.specs.Contract.{IsRight, IsRightStop, IsMemory, Only}
-use Rattle.mz_grammar.specs.Promises.{at_end, settled, whole, IsSound, IsComplete, TellsFirstWrong, TellsFirstDeep}
+use Rattle.mz_grammar.specs.Promises.{at_end, settled, whole, IsSound, IsComplete, TellsFirstWrong, TellsFirstDeep, ValueOrFault}
 use Rattle.mz_grammar.proofs.AllTokens as tokens
 use Rattle.mz_grammar.proofs.OneReason.{wrong_unspelled, deep_bursts, one_wrong, one_deep, wrong_or_deep}
 
@@ -128,3 +128,13 @@ module _ {T A : Type 0} {turn : T → Turn} {limit after : ℕ} {p : List T → 
       go (Err (Unexpected n)) e right = absurd (wrong_or_deep turn limit U ts n left right it)
       go (Err (Too_deep n)) e right = ap (λ k. Err (Too_deep k)) (one_deep turn limit U ts n left right it)
       go (Err No_memory) e right = absurd (no_memory (p ts) e)
+
+  -- each text has one of these answers: by what the reader gives
+  pub value_or_fault : ValueOrFault turn limit U
+  value_or_fault ts = go (p ts) refl
+    where
+      go : (r : Read T A) → p ts ≡ r → ((value : A) × U ts value × Fits turn limit ts) ⊎ HasFault turn limit U ts
+      go (Ok (value, [])) e = let it = tokens.right_end turn limit after p U F P ends ts [] value refl e in inl (value, it.0, it.1)
+      go (Ok (value, t ∷ rest)) e = inr (inl (length (t ∷ rest), tokens.left_over turn limit after p U F P ends ts value t rest e))
+      go (Err (Wrong rest)) e = inr (inl (length rest, tokens.stopped turn limit after p U F P ends ts rest e))
+      go (Err (Deep rest)) e = inr (inr (length rest, tokens.sunk turn limit after p U F P ends ts rest e))

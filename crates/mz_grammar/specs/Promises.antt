@@ -1,8 +1,8 @@
 -- What follows for a whole text, where a function reads the grammar: its answers are right, and each right answer is its answer.
-use Rattle.std.specs.Prelude.{◌≡◌, ℕ, List, [], ◌∷◌, length, Result, Ok, Err}
+use Rattle.std.specs.Prelude.{◌≡◌, ℕ, List, [], ◌∷◌, length, Result, Ok, Err, ◌⊎◌}
 use Rattle.mz_grammar.specs.Reading.{Read, Wrong, Deep}
 use Rattle.mz_grammar.specs.Brackets.{Turn, Neither}
-use Rattle.mz_grammar.specs.Wholes.{Fits, IsFirstWrong, IsFirstDeep}
+use Rattle.mz_grammar.specs.Wholes.{Fits, IsFirstWrong, IsFirstDeep, HasFault}
 use Rattle.mz_grammar.specs.Answers.{Stopped, Unexpected, Too_deep}
 use Rattle.mz_grammar.specs.Contract.{IsRight}
 
@@ -41,6 +41,10 @@ module _ {T A : Type 0} (turn : T → Turn) (limit : ℕ) (reader : List T → R
   -- nothing is too deep
   abbrev pub IsNeverDeep : Type 0
   IsNeverDeep = (tokens : List T) (left : ℕ) → IsFirstDeep turn limit Spelled tokens left → ⊥
+
+-- each text spells a value within the limit, or has a fault
+abbrev pub ValueOrFault : {T A : Type 0} → (T → Turn) → ℕ → (List T → A → Type 0) → Type 0
+ValueOrFault {T} {A} turn limit Spelled = (tokens : List T) → ((value : A) × Spelled tokens value × Fits turn limit tokens) ⊎ HasFault turn limit Spelled tokens
 
 -- no token is a bracket
 abbrev pub HasNoBrackets : {T : Type 0} → (T → Turn) → Type 0

@@ -2,7 +2,7 @@
 
 ghost use Rattle.std.specs.Prelude.{ℕ, List, Option, None};
 ghost use Rattle.mz_grammar.specs.Brackets.{Turn};
-ghost use Rattle.mz_grammar.specs.Promises.{AllFit, HasNoBrackets, IsComplete, IsNeverDeep, IsSound, TellsFirstDeep, TellsFirstWrong};
+ghost use Rattle.mz_grammar.specs.Promises.{AllFit, HasNoBrackets, IsComplete, IsNeverDeep, IsSound, TellsFirstDeep, TellsFirstWrong, ValueOrFault};
 ghost use Rattle.mz_grammar.specs.Reading.{Read};
 ghost use Rattle.mz_grammar.specs.Readers.{Reads};
 
@@ -34,7 +34,7 @@ pub trait Grammar {
 
 /// A reader of a grammar, asked for a whole text, answers exactly: a value where the whole text spells it within the limit,
 /// and that value alone; else the first token that can't stand where it does (or the end that comes too early), or the first
-/// bracket that is one too many. No text has two of these.
+/// bracket that is one too many. Each text has one of these, and none has two.
 pub fn answers_exactly<G: Grammar>()
     requires reads { Reads G.turn G.reader G.spelled G.may_follow G.limit G.left }
     requires may_end { G.may_follow None }
@@ -42,6 +42,7 @@ pub fn answers_exactly<G: Grammar>()
     ensures complete { IsComplete G.turn G.limit G.reader G.spelled }
     ensures first_wrong { TellsFirstWrong G.turn G.limit G.reader G.spelled }
     ensures first_deep { TellsFirstDeep G.turn G.limit G.reader G.spelled }
+    ensures one_of_them { ValueOrFault G.turn G.limit G.spelled }
 {}
 
 /// Where no token is a bracket, every text fits any limit, and none is too deep.

@@ -1,6 +1,6 @@
 //! An example: a letter in any number of brackets, of which two may be open at once.
 
-ghost use Rattle.mz_grammar.specs.Promises.{IsComplete, IsSound, TellsFirstDeep, TellsFirstWrong};
+ghost use Rattle.mz_grammar.specs.Promises.{IsComplete, IsSound, TellsFirstDeep, TellsFirstWrong, ValueOrFault};
 ghost use Rattle.mz_grammar.specs.Nests.{IsNest, below, nest_by, turn};
 
 use crate::laws::{Grammar, answers_exactly};
@@ -35,6 +35,7 @@ pub fn nest_answers_exactly()
     ensures complete { IsComplete turn 2 (nest_by 2 (below 2)) IsNest }
     ensures first_wrong { TellsFirstWrong turn 2 (nest_by 2 (below 2)) IsNest }
     ensures first_deep { TellsFirstDeep turn 2 (nest_by 2 (below 2)) IsNest }
+    ensures one_of_them { ValueOrFault turn 2 IsNest }
 {
     answers_exactly::<Nest>()
 }

@@ -1,5 +1,5 @@
 -- A whole source: what its reader gives is right, and the tree or the fault is the only one.
-use Rattle.std.proofs.Common.{◌≡◌, ℕ, List, length, Ok, Err, refl, sym, ap, ◌∙◌}
+use Rattle.std.proofs.Common.{◌≡◌, ◌⊎◌, inl, inr, ℕ, List, length, Ok, Err, refl, sym, ap, ◌∙◌}
 use Rattle.mz_grammar.specs.Answers.{Stops}
 use Rattle.mz_grammar.specs.Contract.{IsRight, Only}
 use Rattle.mz_grammar.proofs.OneReason.{wrong_unspelled, deep_bursts, one_wrong, one_deep, wrong_or_deep}
@@ -18,7 +18,7 @@ use Rattle.mz_parse.specs.declared.tree.SyntaxFault.TheVariants.{Unexpected, Too
 use Rattle.mz_parse.specs.Grammar.{IsProgram}
 use Rattle.mz_parse.specs.DeclarationReading.{program_by}
 use Rattle.mz_parse.specs.Parses.{Parses, limit, WithinLimit, place_left, Faults, HasCause, Gives, Refuses}
-use Rattle.mz_parse.specs.Laws.{AtMostOneTree, AtMostOneFault, NoTreeAndFault}
+use Rattle.mz_parse.specs.Laws.{AtMostOneTree, AtMostOneFault, NoTreeAndFault, TreeOrFault}
 use Rattle.mz_parse.specs.Stops.{fault_at}
 use Rattle.mz_parse.proofs.DeclarationProductions.{program_reads, program_ends}
 
@@ -77,10 +77,10 @@ pub one_tree : AtMostOneTree
 one_tree tokens surface other one two = same_surface surface other (one.text ∙ sym two.text) (one_value program_reads program_ends tokens.items surface.declarations other.declarations one.spelled two.spelled)
 
 -- a tree has no wrong token, and within the limit no bracket too many
-pub tree_or_fault : NoTreeAndFault
-tree_or_fault tokens surface (Unexpected place) parses within (left, wrong, at) = wrong_unspelled turn limit IsProgram tokens.items left surface.declarations wrong parses.spelled
-tree_or_fault tokens surface (TooDeep place) parses within (left, deep, at) = deep_bursts turn limit IsProgram tokens.items left deep within
-tree_or_fault tokens surface Memory parses within fault = fault
+pub tree_no_fault : NoTreeAndFault
+tree_no_fault tokens surface (Unexpected place) parses within (left, wrong, at) = wrong_unspelled turn limit IsProgram tokens.items left surface.declarations wrong parses.spelled
+tree_no_fault tokens surface (TooDeep place) parses within (left, deep, at) = deep_bursts turn limit IsProgram tokens.items left deep within
+tree_no_fault tokens surface Memory parses within fault = fault
 
 -- the first wrong token and the first bracket too many are one, and not both
 pub refuses_fault : (tokens : Tokens) (named : SyntaxFault) → HasCause tokens named → (fault : SyntaxFault) → Faults tokens fault → Refuses (Err named) fault
@@ -98,3 +98,13 @@ pub one_fault : AtMostOneFault
 one_fault tokens (Unexpected place) other one two = refuses_fault tokens (Unexpected place) one other two
 one_fault tokens (TooDeep place) other one two = refuses_fault tokens (TooDeep place) one other two
 one_fault tokens Memory other one two = absurd one
+
+-- one of them: by what the reader on lists gives
+pub tree_or_fault : TreeOrFault
+tree_or_fault tokens = elim (whole.value_or_fault (program_reads limit) program_ends tokens.items) [
+  | inl it ↦ inl (surface_of tokens.text it.0, record { text = refl; spelled = it.1 }, it.2)
+  | inr fault ↦ inr (elim fault [
+    | inl wrong ↦ (Unexpected (place_left tokens wrong.0), (wrong.0, wrong.1, refl))
+    | inr deep ↦ (TooDeep (place_left tokens deep.0), (deep.0, deep.1, refl))
+  ])
+]

@@ -1,5 +1,5 @@
 -- What holds of all tokens.
-use Rattle.std.specs.Prelude.{◌≡◌}
+use Rattle.std.specs.Prelude.{◌≡◌, ◌⊎◌}
 use Rattle.mz_token.specs.declared.token.Tokens.{Tokens}
 use Rattle.mz_parse.specs.declared.tree.Surface.{Surface}
 use Rattle.mz_parse.specs.declared.tree.SyntaxFault.{SyntaxFault}
@@ -16,3 +16,7 @@ AtMostOneFault = (tokens : Tokens) (fault other : SyntaxFault) → Faults tokens
 -- tokens with a fault have no tree within the limit
 abbrev pub NoTreeAndFault : Type 0
 NoTreeAndFault = (tokens : Tokens) (surface : Surface) (fault : SyntaxFault) → Parses tokens surface → WithinLimit tokens → Faults tokens fault → ⊥
+
+-- tokens have a tree within the limit or a fault
+abbrev pub TreeOrFault : Type 0
+TreeOrFault = (tokens : Tokens) → ((surface : Surface) × Parses tokens surface × WithinLimit tokens) ⊎ ((fault : SyntaxFault) × Faults tokens fault)

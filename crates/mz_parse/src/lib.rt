@@ -4,8 +4,8 @@
 //! one for each alternative, and on the grammar of types below it; `specs/Parses.antt` says what a tree of tokens is, and
 //! what is wrong where they have none. The promise of `parse` is exact: it gives the tree where the tokens have one within
 //! the limit of brackets, and that tree alone; else it names the first token that can't stand where it does, the end that
-//! comes too early, or the first bracket that is one too many. Three laws add that tokens have at most one tree, and at
-//! most one of these faults, and not both.
+//! comes too early, or the first bracket that is one too many. Four laws add that tokens have at most one tree, and at
+//! most one of these faults, and not both, and that they have one of them.
 //!
 //! Design choices: the leaves of the tree are tokens, so that names are spans of the one source text, and each part keeps
 //! the token that its place is taken from. The grammar is read from left to right with one token of look-ahead, but for a
@@ -27,12 +27,9 @@ pub use bodies::{
     Block, BlockItem, Case, Comparing, Comparison, Expression, Factor, FieldValue, Postfix,
     Primary, Product, Select, Sum, Term,
 };
-pub use laws::{at_most_one_fault, at_most_one_tree, no_tree_and_fault};
+pub use laws::{at_most_one_fault, at_most_one_tree, no_tree_and_fault, tree_or_fault};
 pub use tree::{
     Constructor, DataDeclaration, Declaration, FieldDeclaration, FunctionDeclaration,
     NeedDeclaration, Parameter, SignatureDeclaration, Surface, SyntaxFault,
 };
 pub use whole::parse;
-
-#[cfg(test)]
-mod tests;

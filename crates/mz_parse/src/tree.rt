@@ -7,6 +7,7 @@ use mz_tree::{Place, Text};
 use mz_types::{SurfaceAtom, SurfaceType};
 use sqlite_items::Items;
 use std::alloc::AllocError;
+use thiserror::Error;
 
 /// A whole source: its bytes, which the tokens of the tree point into, and its declarations.
 #[derive(Drop)]
@@ -86,13 +87,16 @@ pub struct FunctionDeclaration {
 }
 
 /// Why tokens spell no tree, with the first place where that shows.
-#[derive(Clone, Copy, Debug, PartialEq, Eq)]
+#[derive(Clone, Copy, Debug, PartialEq, Eq, Error)]
 pub enum SyntaxFault {
     /// The token there can't follow those before it; or the text ends too early, at the place after its last byte.
+    #[error("unexpected token or end of the source at {0}")]
     Unexpected(Place),
     /// The bracket there would be one more than may be open at once.
+    #[error("too many open brackets at {0}")]
     TooDeep(Place),
     /// Want of memory.
+    #[error("not enough memory to hold the tree of the source")]
     Memory,
 }
 

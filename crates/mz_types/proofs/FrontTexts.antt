@@ -3,34 +3,18 @@
 use Rattle.std.proofs.Common.{◌≡◌, ℕ, List, [], ◌∷◌, ◌++◌, length, Option, None, Result, Ok, Err, refl, sym, ap, subst, ◌∙◌, append_assoc, append-nil, ◌⊎◌, inl, inr}
 use Rattle.mz_grammar.specs.Reading.{Read, Wrong, Deep, first}
 use Rattle.mz_grammar.specs.Readers.{Reads, Reaches, Sinks}
-use Rattle.mz_grammar.specs.Wholes.{Fits}
+use Rattle.mz_grammar.specs.Wholes.{Fits, EndsAt, HasFault}
 use Rattle.mz_grammar.specs.Answers.{Stopped, Unexpected, Too_deep, No_memory, Stops}
 use Rattle.mz_grammar.specs.Contract.{IsRightStop, IsMemory}
 use Rattle.mz_grammar.proofs.AllTokens as tokens
-use Rattle.mz_grammar.proofs.OneReason.{deep_bursts}
+use Rattle.mz_grammar.proofs.Longest.{Longest}
+use Rattle.mz_grammar.proofs.OneReason.{deep_bursts, fronts}
 use Rattle.mz_token.specs.declared.token.Token.{Token}
 use Rattle.mz_types.specs.declared.stop.Stop.{Stop}
 use Rattle.mz_types.specs.Words.{Spelling, turn}
+use Rattle.mz_types.specs.Laws.{FrontOrFault}
 use Rattle.mz_types.specs.Stops.{cause, Gives}
-use Rattle.mz_types.specs.Fronts.{EndsAt, IsFront, IsAnswer, IsRightFront, OnlyFront}
-use Rattle.mz_types.proofs.Rooms.{read_whole}
-
--- of two fronts of one list one goes on from the other: token by token
-fronts : {T : Type 0} (x r y s : List T) → x ++ r ≡ y ++ s → ((z : List T) × (y ≡ x ++ z) × (r ≡ z ++ s)) ⊎ ((z : List T) × (x ≡ y ++ z) × (s ≡ z ++ r))
-fronts [] r y s e = inl (y, refl, e)
-fronts (t ∷ x) r [] s e = inr (t ∷ x, refl, sym e)
-fronts {T} (t ∷ x) r (u ∷ y) s e =
-    let head : t ≡ u = cc in
-    let tail : x ++ r ≡ y ++ s = cc in
-    elim (fronts x r y s tail) [
-      | inl more ↦ inl (more.0, ap (λ h. h ∷ y) (sym head) ∙ ap (λ l. t ∷ l) more.1, more.2)
-      | inr more ↦ inr (more.0, ap (λ h. h ∷ x) head ∙ ap (λ l. u ∷ l) more.1, more.2)
-    ]
-
--- lists with a bracket behind a front begin as that, whatever stands behind the bracket
-first_alike : {T : Type 0} (z s more : List T) (b : T) → first (z ++ b ∷ more) ≡ first (z ++ b ∷ s)
-first_alike [] s more b = refl
-first_alike (t ∷ z) s more b = refl
+use Rattle.mz_types.specs.Fronts.{IsFront, IsAnswer, IsRightFront, OnlyFront}
 
 -- nothing is read to the end and with tokens left
 clash : {T A : Type 0} (r : Read T A) (a b : A) (t : T) (more : List T) → r ≡ Ok (a, t ∷ more) → r ≡ Ok (b, []) → ⊥
@@ -45,7 +29,7 @@ clash {T} {A} r a b t more e h =
 burst : {T A : Type 0} (r : Read T A) (x : A × List T) (rest : List T) → r ≡ Ok x → r ≡ Err (Deep rest) → ⊥
 burst r x rest e h = let both : Ok x ≡ Err (Deep rest) = sym e ∙ h in cc
 
-module _ {A : Type 0} {p : ℕ → List Token → Read Token A} {U : Spelling A} {F : Option Token → Type 0} (P : (d : ℕ) → Reads turn (p d) U F d d) (ends : F None) (d : ℕ) where
+module _ {A : Type 0} {p : ℕ → List Token → Read Token A} {U : Spelling A} {F : Option Token → Type 0} (P : (d : ℕ) → Reads turn (p d) U F d d) (ends : F None) (L : (d : ℕ) → Longest (p d) U) (d : ℕ) where
   -- what was read can't go on: a text that went on would be read further
   ends_at : (front rest : List Token) (value : A) → ((others : List Token) → first others ≡ first rest → p d (front ++ others) ≡ Ok (value, others)) → EndsAt U front rest
   ends_at front [] value again = tt
@@ -74,17 +58,16 @@ module _ {A : Type 0} {p : ℕ → List Token → Read Token A} {U : Spelling A}
   front_right view ts (Ok x) h = read_right ts (view x).1 (view x).0 h
   front_right view ts (Err stop) h = stop_right ts (cause stop) h
 
-  -- it isn't too deep where the front fits. The bracket that is one too many would stand behind the front, and belong to a text
-  -- of the grammar that goes on from it; but with room enough the reader stops behind the front for any tokens that begin so
-  not_deep : (ts front rest deep : List Token) (value : A) → ts ≡ front ++ rest → U front value → F (first rest) → Fits turn d front → p d ts ≡ Err (Deep deep) → ⊥
-  not_deep ts front rest deep value split spelled follows fits h =
+  -- it isn't too deep where the front fits: the bracket that is one too many would stand in the front, which would burst, or behind
+  -- it, where the grammar would go on
+  not_deep : (ts front rest deep : List Token) (value : A) → ts ≡ front ++ rest → U front value → EndsAt U front rest → Fits turn d front → p d ts ≡ Err (Deep deep) → ⊥
+  not_deep ts front rest deep value split spelled last fits h =
       let one : Sinks turn U d ts deep = (P d).sinks ts deep h in
       elim (fronts front rest (one.front ++ one.bracket ∷ []) one.after (sym split ∙ one.split ∙ ap (λ l. one.front ++ l) one.here ∙ sym (append_assoc one.front (one.bracket ∷ []) one.after))) [
         | inl it ↦ behind one it.0 it.1 it.2
         | inr it ↦ before one it.0 it.1
       ]
     where
-      -- the bracket stands in the front, which would burst
       before : (one : Sinks turn U d ts deep) (z : List Token) → front ≡ (one.front ++ one.bracket ∷ []) ++ z → ⊥
       before one z e = deep_bursts turn d U front (length (one.bracket ∷ z)) (record {
         front = one.front;
@@ -100,21 +83,16 @@ module _ {A : Type 0} {p : ℕ → List Token → Read Token A} {U : Spelling A}
       behind : (one : Sinks turn U d ts deep) (z : List Token) → one.front ++ one.bracket ∷ [] ≡ front ++ z → rest ≡ z ++ one.after → ⊥
       behind one [] e r = before one [] (sym (append-nil front) ∙ sym e ∙ sym (append-nil (one.front ++ one.bracket ∷ [])))
       behind one (t ∷ z) e r =
-          let text : List Token = one.front ++ one.bracket ∷ one.more in
-          let as_front : text ≡ front ++ ((t ∷ z) ++ one.more) = sym (append_assoc one.front (one.bracket ∷ []) one.more) ∙ ap (λ l. l ++ one.more) e ∙ append_assoc front (t ∷ z) one.more in
-          let large : ℕ = length text in
-          let all : p large text ≡ Ok (one.value, []) = read_whole P ends text one.value one.viable in
-          let next : F (first ((t ∷ z) ++ one.more)) = subst (λ (l : List Token). F (first l)) r follows in
-          elim ((P large).never front ((t ∷ z) ++ one.more) value spelled next) [
-            | inl part ↦ clash (p large text) value one.value t (z ++ one.more) (ap (p large) as_front ∙ part) all
-            | inr sunk ↦ burst (p large text) (one.value, []) sunk.0 all (ap (p large) as_front ∙ sunk.1)
-          ]
+          let as_front : one.front ++ one.bracket ∷ one.more ≡ (front ++ t ∷ []) ++ (z ++ one.more) =
+          sym (append_assoc one.front (one.bracket ∷ []) one.more) ∙ ap (λ l. l ++ one.more) e ∙ append_assoc front (t ∷ z) one.more ∙ sym (append_assoc front (t ∷ []) (z ++ one.more)) in
+          let here : EndsAt U front (t ∷ (z ++ one.after)) = subst (EndsAt U front) r last in
+          here (z ++ one.more, one.value, subst (λ (l : List Token). U l one.value) as_front one.viable)
 
-  -- what a front spells is read, with what may follow behind it
-  read_only : (ts front rest : List Token) (value : A) → ts ≡ front ++ rest → U front value → F (first rest) → Fits turn d front → p d ts ≡ Ok (value, rest)
-  read_only ts front rest value split spelled follows fits = elim ((P d).never front rest value spelled follows) [
+  -- what a front spells is read, where it can't go on
+  read_only : (ts front rest : List Token) (value : A) → ts ≡ front ++ rest → U front value → EndsAt U front rest → Fits turn d front → p d ts ≡ Ok (value, rest)
+  read_only ts front rest value split spelled last fits = elim ((L d).reads front rest value spelled last) [
     | inl h ↦ ap (p d) split ∙ h
-    | inr deep ↦ absurd (not_deep ts front rest deep.0 value split spelled follows fits (ap (p d) split ∙ deep.1))
+    | inr deep ↦ absurd (not_deep ts front rest deep.0 value split spelled last fits (ap (p d) split ∙ deep.1))
   ]
 
   -- a refusal would contradict that it is read; want of memory says nothing
@@ -128,5 +106,15 @@ module _ {A : Type 0} {p : ℕ → List Token → Read Token A} {U : Spelling A}
   answered view ts (Err stop) x h e = stop_only ts (cause stop) x h e
 
   -- by the answer
-  pub front_only : {X : Type 0} (view : X → A × List Token) (ts : List Token) (result : Result X Stop) → Gives view result (p d ts) → OnlyFront U F d ts view result
-  front_only view ts result h front rest value split spelled follows fits = answered view ts result (value, rest) h (read_only ts front rest value split spelled follows fits)
+  pub front_only : {X : Type 0} (view : X → A × List Token) (ts : List Token) (result : Result X Stop) → Gives view result (p d ts) → OnlyFront U d ts view result
+  front_only view ts result h front rest value split spelled last fits = answered view ts result (value, rest) h (read_only ts front rest value split spelled last fits)
+
+module _ {A : Type 0} {p : ℕ → List Token → Read Token A} {U : Spelling A} {F : Option Token → Type 0} (P : (d : ℕ) → Reads turn (p d) U F d d) (ends : F None) (L : (d : ℕ) → Longest (p d) U) where
+  -- one of them: by what the reader gives
+  pub found_or_fault : FrontOrFault U
+  found_or_fault d ts = go (p d ts) refl
+    where
+      go : (r : Read Token A) → p d ts ≡ r → ((rest : List Token) × (value : A) × IsFront U d ts rest value) ⊎ HasFault turn d U ts
+      go (Ok (value, rest)) h = inl (rest, value, read_right P ends L d ts rest value h)
+      go (Err (Wrong rest)) h = inr (inl (length rest, tokens.right_wrong turn d d (p d) U F (P d) ends ts rest (length rest) h refl))
+      go (Err (Deep rest)) h = inr (inr (length rest, tokens.right_deep turn d d (p d) U F (P d) ends ts rest (length rest) h refl))

@@ -7,6 +7,7 @@ use Rattle.mz_grammar.specs.Relations.{Nothing, Then, Either, Image, Maybe}
 use Rattle.mz_grammar.specs.Readers.{Any, Reads}
 use Rattle.mz_grammar.proofs.Readers.{Starts, token_starts, then_starts, image_starts, either_starts, either_of, before, mapped}
 use Rattle.mz_grammar.proofs.ManyReaders.{Ends}
+use Rattle.mz_grammar.proofs.Alternatives.{OneOf, last_of, one_of, among}
 use Rattle.mz_grammar.proofs.Parts.{then_any, then_sure, then_many, then_maybe, done_or, bracketed}
 use Rattle.mz_grammar.proofs.Layers.{Lifts, lifts_self, lifts_const, lifts_then, lifts_either, lifts_image, lifts_many}
 use Rattle.mz_token.specs.declared.token.Token.{Token}
@@ -20,6 +21,7 @@ use Rattle.mz_types.specs.Trees.{field_name_of}
 use Rattle.mz_types.specs.Grammar.{IsField, IsFields, IsClause, IsStructure, IsSingleton, HasOver, IsSame, AtomOver, AtomsOver, LockOver, TypeOver}
 use Rattle.mz_types.specs.Reading.{field_at, next_field_at, fields_at, maybe_fields_at, clause_at, singleton_at, word_at, structure_by, has_by, same_at, atom_by, next_atom_by, atoms_by, lock_by, type_by, below}
 use Rattle.mz_types.specs.Fronts.{AfterType, AfterAtoms}
+use Rattle.mz_types.proofs.Sorts.{sorts, Lower_sort, Upper_sort, Key_sort, Mark_sort}
 use Rattle.mz_types.proofs.Singles.{lower_has, key_has, mark_has, mark_next, sample, low_reads, up_reads, key_reads, name_reads, mark_reads}
 
 -- ---- structural types and singletons
@@ -41,24 +43,24 @@ module _ (d : ℕ) where
   fields_start = then_starts IsField _ (then_starts Low _ (token_starts lower))
 
   -- a closing brace is no name and no `;`
-  maybe_fields_read : Reads turn maybe_fields_at (Either (Nothing []) IsFields) (λ o. passes (mark 1) o ≡ true) d d
+  pub maybe_fields_read : Reads turn maybe_fields_at (Either (Nothing []) IsFields) (λ o. passes (mark 1) o ≡ true) d d
   unfolding maybe_fields_at
   maybe_fields_read = done_or (mark 1) lower [] fields_read fields_start (mark_has 1 (λ k. is_lower k ≡ false) refl)
       (mark_next 1 (λ k. is_mark 4 k ≡ false) refl (Ends (mark 4) Any) (λ t w. (w, tt)))
 
-  clause_reads : Reads turn clause_at IsClause Any d d
+  pub clause_reads : Reads turn clause_at IsClause Any d d
   unfolding clause_at
   clause_reads = then_any (key_reads 2 d) (λ adopts. low_reads d)
 
-  singleton_reads : Reads turn singleton_at IsSingleton Any d d
+  pub singleton_reads : Reads turn singleton_at IsSingleton Any d d
   unfolding singleton_at
   singleton_reads = then_any (mark_reads 8 d d refl) (λ is. mapped (low_reads d) (Singleton is))
 
-  key_type_reads : (n : ℕ) (type : Token → SurfaceType) → Reads turn (word_at (key n) type) (Image type (Key n)) Any d d
+  pub key_type_reads : (n : ℕ) (type : Token → SurfaceType) → Reads turn (word_at (key n) type) (Image type (Key n)) Any d d
   unfolding word_at
   key_type_reads n type = mapped (key_reads n d) type
 
-  named_reads : Reads turn (word_at lower Named) (Image Named Low) Any d d
+  pub named_reads : Reads turn (word_at lower Named) (Image Named Low) Any d d
   unfolding word_at
   named_reads = mapped (low_reads d) Named
 
@@ -81,12 +83,12 @@ structure_reads d = then_any (up_reads d) (λ con. bracketed (mark 0) (mark_has 
 
 -- ---- atoms, over what reads the types in them
 
-same_reads : (result : Bool) (e : ℕ) (left : Token) → Reads turn (same_at result left) (IsSame result left) Any e e
+pub same_reads : (result : Bool) (e : ℕ) (left : Token) → Reads turn (same_at result left) (IsSame result left) Any e e
 unfolding same_at
 same_reads result e left = then_any (mark_reads 8 e e refl) (λ is. mapped (name_reads result e) (Same left))
 
 module _ (result : Bool) (e : ℕ) (inner : List Token → Read Token SurfaceType) (X : Spelling SurfaceType) (I : Reads turn inner X AfterType e e) where
-  has_reads : (subject : Token) → Reads turn (has_by inner subject) (HasOver X subject) AfterType e e
+  pub has_reads : (subject : Token) → Reads turn (has_by inner subject) (HasOver X subject) AfterType e e
   unfolding has_by
   has_reads subject = then_any (mark_reads 22 e e refl) (λ at. mapped I (Has subject))
 
@@ -96,7 +98,7 @@ module _ (result : Bool) (e : ℕ) (inner : List Token → Read Token SurfaceTyp
   atom_reads = then_any (name_reads result e) (λ subject. either_of (mark 22) (mark 8) (has_reads subject) (before (same_reads result e subject) (λ o w. tt))
       (then_starts (Mark 22) _ (token_starts (mark 22))) (then_starts (Mark 8) _ (token_starts (mark 8))) (mark_has 22 (λ k. is_mark 8 k ≡ false) refl))
 
-  next_atom_reads : Reads turn (next_atom_by result inner) (Then (Mark 9) (λ star. AtomOver result X)) AfterType e e
+  pub next_atom_reads : Reads turn (next_atom_by result inner) (Then (Mark 9) (λ star. AtomOver result X)) AfterType e e
   unfolding next_atom_by
   next_atom_reads = then_any (mark_reads 9 e e refl) (λ star. atom_reads)
 
@@ -141,94 +143,9 @@ module _ (result : Bool) (X : Spelling SurfaceType) (word : Token) where
     ),
   )
 
--- the alternatives of a type from each on, with what they begin with, as tests of tokens and of kinds
-
-abbrev begins_from_lock : Token → Bool
-begins_from_lock t = key 19 t || upper t
-
-abbrev begins_from_named : Token → Bool
-begins_from_named t = lower t || begins_from_lock t
-
-abbrev begins_from_singleton : Token → Bool
-begins_from_singleton t = mark 8 t || begins_from_named t
-
-abbrev begins_from_locked : Token → Bool
-begins_from_locked t = key 20 t || begins_from_singleton t
-
-abbrev begins_from_dynamic : Token → Bool
-begins_from_dynamic t = key 27 t || begins_from_locked t
-
-abbrev begins_from_unknown : Token → Bool
-begins_from_unknown t = key 26 t || begins_from_dynamic t
-
-abbrev pub begins_type : Token → Bool
-begins_type t = key 25 t || begins_from_unknown t
-
-abbrev kind_from_lock : Kind → Bool
-kind_from_lock k = is_key 19 k || is_upper k
-
-abbrev kind_from_named : Kind → Bool
-kind_from_named k = is_lower k || kind_from_lock k
-
-abbrev kind_from_singleton : Kind → Bool
-kind_from_singleton k = is_mark 8 k || kind_from_named k
-
-abbrev kind_from_locked : Kind → Bool
-kind_from_locked k = is_key 20 k || kind_from_singleton k
-
-abbrev kind_from_dynamic : Kind → Bool
-kind_from_dynamic k = is_key 27 k || kind_from_locked k
-
-abbrev kind_from_unknown : Kind → Bool
-kind_from_unknown k = is_key 26 k || kind_from_dynamic k
-
-module _ (result : Bool) (X : Spelling SurfaceType) where
-  abbrev From_lock : Spelling SurfaceType
-  From_lock = Either (LockOver result X) IsStructure
-
-  abbrev From_named : Spelling SurfaceType
-  From_named = Either (Image Named Low) From_lock
-
-  abbrev From_singleton : Spelling SurfaceType
-  From_singleton = Either IsSingleton From_named
-
-  abbrev From_locked : Spelling SurfaceType
-  From_locked = Either (Image Locked (Key 20)) From_singleton
-
-  abbrev From_dynamic : Spelling SurfaceType
-  From_dynamic = Either (Image Dynamic (Key 27)) From_locked
-
-  abbrev From_unknown : Spelling SurfaceType
-  From_unknown = Either (Image Unknown (Key 26)) From_dynamic
-
-  -- each alternative begins with a token of its own
-  key_starts : (n : ℕ) (type : Token → SurfaceType) → Starts (Image type (Key n)) (key n)
-  key_starts n type = image_starts (token_starts (key n))
-
-  from_lock_starts : Starts From_lock begins_from_lock
-  from_lock_starts = either_starts (then_starts (Key 19) _ (token_starts (key 19))) (then_starts Up _ (token_starts upper))
-
-  from_named_starts : Starts From_named begins_from_named
-  from_named_starts = either_starts (image_starts (token_starts lower)) from_lock_starts
-
-  from_singleton_starts : Starts From_singleton begins_from_singleton
-  from_singleton_starts = either_starts (then_starts (Mark 8) _ (token_starts (mark 8))) from_named_starts
-
-  from_locked_starts : Starts From_locked begins_from_locked
-  from_locked_starts = either_starts (key_starts 20 Locked) from_singleton_starts
-
-  from_dynamic_starts : Starts From_dynamic begins_from_dynamic
-  from_dynamic_starts = either_starts (key_starts 27 Dynamic) from_locked_starts
-
-  from_unknown_starts : Starts From_unknown begins_from_unknown
-  from_unknown_starts = either_starts (key_starts 26 Unknown) from_dynamic_starts
-
-  pub over_starts : Starts (TypeOver result X) begins_type
-  over_starts = either_starts (key_starts 25 Int) from_unknown_starts
-
 module _ (result : Bool) (d : ℕ) (inner : List Token → Read Token SurfaceType) (X : Spelling SurfaceType) (I : (e : ℕ) → d ≡ suc e → Reads turn inner X AfterType e e) where
   -- a closing bracket is no `*` and no `adopts`
-  lock_reads : Reads turn (lock_by result d inner) (LockOver result X) Any d d
+  pub lock_reads : Reads turn (lock_by result d inner) (LockOver result X) Any d d
   unfolding lock_by sample
   lock_reads = then_any (key_reads 19 d) (λ word. bracketed (mark 2) (mark_has 2 (λ k. turn_of k ≡ Opens) refl) (sample (kind.Mark 2)) refl (lock_ends result X word) d
       (λ e h opening. then_sure (mark 3) (atoms_read result e inner X (I e h)) (λ guarded. mapped (mark_reads 3 e d (ap Some (sym h))) (λ closing. Lock word guarded))
@@ -236,23 +153,28 @@ module _ (result : Bool) (d : ℕ) (inner : List Token → Read Token SurfaceTyp
       (mark_next 3 (λ k. (is_mark 9 k ≡ false) × ((is_key 2 k ≡ false) × Unit {0})) (refl, (refl, tt)) AfterAtoms (λ t w. w))))
 
   -- one of those that begin apart
-  pub over_reads : Reads turn (type_by result d inner) (TypeOver result X) AfterType d d
+  over_one_of : OneOf sorts turn (Key_sort 25) (Key_sort 26 ∷ Key_sort 27 ∷ Key_sort 20 ∷ Mark_sort 8 ∷ Lower_sort ∷ Key_sort 19 ∷ Upper_sort ∷ []) (type_by result d inner) (TypeOver result X) AfterType d d
   unfolding type_by
-  over_reads =
-      either_of (key 25) begins_from_unknown (before (key_type_reads d 25 Int) (λ o w. tt))
-      (either_of (key 26) begins_from_dynamic (before (key_type_reads d 26 Unknown) (λ o w. tt))
-      (either_of (key 27) begins_from_locked (before (key_type_reads d 27 Dynamic) (λ o w. tt))
-      (either_of (key 20) begins_from_singleton (before (key_type_reads d 20 Locked) (λ o w. tt))
-      (either_of (mark 8) begins_from_named (before (singleton_reads d) (λ o w. tt))
-      (either_of lower begins_from_lock (before (named_reads d) (λ o w. tt))
-      (either_of (key 19) upper (before lock_reads (λ o w. tt)) (structure_reads d)
-      (then_starts (Key 19) _ (token_starts (key 19))) (then_starts Up _ (token_starts upper)) (key_has 19 (λ k. is_upper k ≡ false) refl))
-      (image_starts (token_starts lower)) (from_lock_starts result X) (lower_has (λ k. kind_from_lock k ≡ false) refl))
-      (then_starts (Mark 8) _ (token_starts (mark 8))) (from_named_starts result X) (mark_has 8 (λ k. kind_from_named k ≡ false) refl))
-      (key_starts result X 20 Locked) (from_singleton_starts result X) (key_has 20 (λ k. kind_from_singleton k ≡ false) refl))
-      (key_starts result X 27 Dynamic) (from_locked_starts result X) (key_has 27 (λ k. kind_from_locked k ≡ false) refl))
-      (key_starts result X 26 Unknown) (from_dynamic_starts result X) (key_has 26 (λ k. kind_from_dynamic k ≡ false) refl))
-      (key_starts result X 25 Int) (from_unknown_starts result X) (key_has 25 (λ k. kind_from_unknown k ≡ false) refl)
+  over_one_of =
+      one_of sorts (Key_sort 25) (before (key_type_reads d 25 Int) (λ o w. tt)) (image_starts (token_starts (key 25))) refl
+      (one_of sorts (Key_sort 26) (before (key_type_reads d 26 Unknown) (λ o w. tt)) (image_starts (token_starts (key 26))) refl
+      (one_of sorts (Key_sort 27) (before (key_type_reads d 27 Dynamic) (λ o w. tt)) (image_starts (token_starts (key 27))) refl
+      (one_of sorts (Key_sort 20) (before (key_type_reads d 20 Locked) (λ o w. tt)) (image_starts (token_starts (key 20))) refl
+      (one_of sorts (Mark_sort 8) (before (singleton_reads d) (λ o w. tt)) (then_starts (Mark 8) _ (token_starts (mark 8))) refl
+      (one_of sorts Lower_sort (before (named_reads d) (λ o w. tt)) (image_starts (token_starts lower)) refl
+      (one_of sorts (Key_sort 19) (before lock_reads (λ o w. tt)) (then_starts (Key 19) _ (token_starts (key 19))) refl
+      (last_of sorts Upper_sort (structure_reads d) (then_starts Up _ (token_starts upper)))))))))
+
+  pub over_reads : Reads turn (type_by result d inner) (TypeOver result X) AfterType d d
+  over_reads = over_one_of.reads
+
+-- what a type begins with
+abbrev pub begins_type : Token → Bool
+begins_type = among sorts (Key_sort 25) (Key_sort 26 ∷ Key_sort 27 ∷ Key_sort 20 ∷ Mark_sort 8 ∷ Lower_sort ∷ Key_sort 19 ∷ Upper_sort ∷ [])
+
+-- no bracket need be opened to see it
+pub over_starts : (result : Bool) (X : Spelling SurfaceType) → Starts (TypeOver result X) begins_type
+over_starts result X = (over_one_of result 0 (below result 0) X (λ e h. cc)).starts
 
 -- ---- the knot
 

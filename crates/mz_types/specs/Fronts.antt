@@ -1,8 +1,8 @@
 -- What a call answers that reads from the front of tokens and gives those left, and when.
-use Rattle.std.specs.Prelude.{◌≡◌, ℕ, false, List, [], ◌∷◌, ◌++◌, Option, Some, Result, Ok, Err}
-use Rattle.mz_grammar.specs.Reading.{first, passes}
+use Rattle.std.specs.Prelude.{◌≡◌, ℕ, false, List, ◌++◌, Option, Some, Result, Ok, Err}
+use Rattle.mz_grammar.specs.Reading.{passes}
 use Rattle.mz_grammar.specs.Brackets.{room}
-use Rattle.mz_grammar.specs.Wholes.{Fits, Begins}
+use Rattle.mz_grammar.specs.Wholes.{Fits, EndsAt}
 use Rattle.mz_grammar.specs.Contract.{IsRightStop, IsMemory}
 use Rattle.mz_token.specs.declared.token.Token.{Token}
 use Rattle.mz_types.specs.declared.stop.Stop.{Stop}
@@ -16,11 +16,6 @@ AfterType next = (passes (key 2) next ≡ false) × Unit {0}
 -- nor `*` behind atoms
 abbrev pub AfterAtoms : Option Token → Type 0
 AfterAtoms next = (passes (mark 9) next ≡ false) × AfterType next
-
--- nothing of the grammar goes on with the next token
-abbrev pub EndsAt : {A : Type 0} → Spelling A → List Token → List Token → Type 0
-EndsAt Spelled front [] = Unit {0}
-EndsAt Spelled front (t ∷ rest) = Begins Spelled (front ++ t ∷ []) → ⊥
 
 -- the tokens before the rest spell the value and can't go on, and as many brackets may be opened behind them as before
 pub record IsFront {A : Type 0} (Spelled : Spelling A) (depth : ℕ) (tokens rest : List Token) (value : A) : Type 0 where
@@ -40,7 +35,7 @@ abbrev pub IsRightFront : {A X : Type 0} → Spelling A → ℕ → List Token �
 IsRightFront Spelled depth tokens view (Ok x) = IsFront Spelled depth tokens (view x).1 (view x).0
 IsRightFront Spelled depth tokens view (Err stop) = IsRightStop turn depth Spelled tokens (cause stop)
 
--- what a front spells within the limit is answered where that may follow which follows, unless memory runs out
-abbrev pub OnlyFront : {A X : Type 0} → Spelling A → (Option Token → Type 0) → ℕ → List Token → (X → A × List Token) → Result X Stop → Type 0
-OnlyFront {A} Spelled MayFollow depth tokens view result =
-    (front rest : List Token) (value : A) → tokens ≡ front ++ rest → Spelled front value → MayFollow (first rest) → Fits turn depth front → IsAnswer view result (value, rest)
+-- what a front spells within the limit and can't go on is answered, unless memory runs out
+abbrev pub OnlyFront : {A X : Type 0} → Spelling A → ℕ → List Token → (X → A × List Token) → Result X Stop → Type 0
+OnlyFront {A} Spelled depth tokens view result =
+    (front rest : List Token) (value : A) → tokens ≡ front ++ rest → Spelled front value → EndsAt Spelled front rest → Fits turn depth front → IsAnswer view result (value, rest)

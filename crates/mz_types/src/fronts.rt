@@ -1,6 +1,6 @@
 //! The readers for callers: a type, an atom and atoms, from the front of tokens.
 
-ghost use Rattle.mz_types.specs.Fronts.{AfterAtoms, AfterType, IsRightFront, OnlyFront};
+ghost use Rattle.mz_types.specs.Fronts.{IsRightFront, OnlyFront};
 ghost use Rattle.mz_types.specs.Grammar.{IsAtom, IsAtoms, IsType};
 ghost use Rattle.mz_types.specs.Reading.{atom_at, atoms_at, type_at};
 ghost use Rattle.mz_types.specs.Stops.{Gives};
@@ -23,7 +23,7 @@ pub fn read_type(
 ) -> Result<(SurfaceType, &[Token]), Stop>
     ensures gives { Gives (λ x. (x.0, x.1.now)) result (type_at result_stands depth tokens.now) }
     ensures right { IsRightFront (IsType result_stands) depth tokens.now (λ x. (x.0, x.1.now)) result }
-    ensures only { OnlyFront (IsType result_stands) AfterType depth tokens.now (λ x. (x.0, x.1.now)) result }
+    ensures only { OnlyFront (IsType result_stands) depth tokens.now (λ x. (x.0, x.1.now)) result }
 {
     any_type(alloc, tokens, depth, result_stands)
 }
@@ -40,7 +40,7 @@ pub fn read_atom(
 ) -> Result<(SurfaceAtom, &[Token]), Stop>
     ensures gives { Gives (λ x. (x.0, x.1.now)) result (atom_at result_stands depth tokens.now) }
     ensures right { IsRightFront (IsAtom result_stands) depth tokens.now (λ x. (x.0, x.1.now)) result }
-    ensures only { OnlyFront (IsAtom result_stands) AfterType depth tokens.now (λ x. (x.0, x.1.now)) result }
+    ensures only { OnlyFront (IsAtom result_stands) depth tokens.now (λ x. (x.0, x.1.now)) result }
 {
     atom(alloc, tokens, depth, result_stands)
 }
@@ -57,7 +57,7 @@ pub fn read_atoms(
 ) -> Result<(Items<SurfaceAtom>, &[Token]), Stop>
     ensures gives { Gives (λ x. (x.0, x.1.now)) result (atoms_at result_stands depth tokens.now) }
     ensures right { IsRightFront (IsAtoms result_stands) depth tokens.now (λ x. (x.0, x.1.now)) result }
-    ensures only { OnlyFront (IsAtoms result_stands) AfterAtoms depth tokens.now (λ x. (x.0, x.1.now)) result }
+    ensures only { OnlyFront (IsAtoms result_stands) depth tokens.now (λ x. (x.0, x.1.now)) result }
 {
     atoms(alloc, tokens, depth, result_stands)
 }

@@ -3,7 +3,7 @@
 ghost use Rattle.std.specs.Prelude.{Bool};
 ghost use Rattle.mz_types.specs.Fronts.{AfterAtoms, AfterType};
 ghost use Rattle.mz_types.specs.Grammar.{IsAtom, IsAtoms, IsType};
-ghost use Rattle.mz_types.specs.Laws.{AreRead, AtMostOne, HoldsItself, IsReadWhole};
+ghost use Rattle.mz_types.specs.Laws.{AreRead, AtMostOne, FrontOrFault, HoldsItself, IsReadWhole};
 ghost use Rattle.mz_types.specs.Reading.{atom_at, atoms_at, type_at};
 
 /// The readers on lists, by which the contracts of `read_type`, `read_atom` and `read_atoms` say what these answer, read the
@@ -26,6 +26,13 @@ pub fn at_most_one_tree()
     ensures types { (result : Bool) → AtMostOne (IsType result) }
     ensures atoms { (result : Bool) → AtMostOne (IsAtom result) }
     ensures lists { (result : Bool) → AtMostOne (IsAtoms result) }
+{}
+
+/// Tokens begin with a type, or have a fault where one is wanted; likewise for an atom and for atoms.
+pub fn front_or_fault()
+    ensures types { (result : Bool) → FrontOrFault (IsType result) }
+    ensures atoms { (result : Bool) → FrontOrFault (IsAtom result) }
+    ensures lists { (result : Bool) → FrontOrFault (IsAtoms result) }
 {}
 
 /// The grammar holds itself: in a lock stands what is a type elsewhere.

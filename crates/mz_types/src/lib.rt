@@ -4,9 +4,9 @@
 //! The promise of `read_type`, `read_atom` and `read_atoms` is that they read a front of the tokens exactly by it: what they
 //! give is spelled by the tokens taken and can't go on, what a front spells within the limit of brackets is given, and a
 //! refusal names the first token that can't stand there, or the first bracket that is one too many (`specs/Fronts.antt`).
-//! Four laws add that the readers on lists (`specs/Reading.antt`), by which a parser of more than types states what these
-//! calls give, read the grammar; that each tree's tokens are read as it; that tokens have at most one tree; and that the
-//! grammar holds itself.
+//! Five laws add that the readers on lists (`specs/Reading.antt`), by which a parser of more than types states what these
+//! calls give, read the grammar; that each tree's tokens are read as it; that tokens have at most one tree; that a front of them
+//! spells one or they have a fault; and that the grammar holds itself.
 //!
 //! Design choices: types and atoms hold each other, and a parser of programs calls both from everywhere, so they are a
 //! crate of their own. The leaves of the tree are tokens, from which names and places are taken. How many brackets may be
@@ -23,9 +23,8 @@ mod tree;
 pub mod words;
 
 pub use fronts::{read_atom, read_atoms, read_type};
-pub use laws::{at_most_one_tree, grammar_holds_itself, grammar_is_read, trees_are_read};
+pub use laws::{
+    at_most_one_tree, front_or_fault, grammar_holds_itself, grammar_is_read, trees_are_read,
+};
 pub use stop::Stop;
 pub use tree::{FieldName, SurfaceAtom, SurfaceType};
-
-#[cfg(test)]
-mod tests;

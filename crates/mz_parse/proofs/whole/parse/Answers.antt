@@ -6,7 +6,7 @@ use Rattle.mz_parse.specs.declared.tree.SyntaxFault.{SyntaxFault}
 use Rattle.mz_parse.specs.Grammar.{IsProgram}
 use Rattle.mz_parse.specs.Parses.{limit, Faults, Refuses}
 use Rattle.mz_parse.specs.Stops.{fault_at}
-use Rattle.mz_parse.proofs.WholeSources.{cause_at, refuses_fault, tree_or_fault}
+use Rattle.mz_parse.proofs.WholeSources.{cause_at, refuses_fault, tree_no_fault}
 use Rattle.mz_parse.proofs.whole.parse.Goals as goal
 
 -- where it stopped is the one fault
@@ -20,4 +20,4 @@ returns-in-Err-clause-refuses c =
 pub returns-clause-refuses : goal.returns-clause-refuses
 returns-clause-refuses c =
     let right : IsRight turn limit IsProgram cause c.args.tokens.now.items (Ok c.in-Ok.declarations) = subst (λ ts. IsRight turn limit IsProgram cause ts (Ok c.in-Ok.declarations)) c.as_slice.ensures c.in-Ok.ensures.right in
-    λ fault faults. tree_or_fault c.args.tokens.now (record { text = c.args.tokens.now.text; declarations = c.in-Ok.declarations }) fault (record { text = refl; spelled = right.0 }) right.1 faults
+    λ fault faults. tree_no_fault c.args.tokens.now (record { text = c.args.tokens.now.text; declarations = c.in-Ok.declarations }) fault (record { text = refl; spelled = right.0 }) right.1 faults

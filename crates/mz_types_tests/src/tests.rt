@@ -1,6 +1,6 @@
 //! What is read of a text: each form of type and atom, what follows it, where a refusal stands, and the limit of brackets.
-use super::*;
 use mz_token::tokens;
+use mz_types::{Stop, SurfaceAtom, SurfaceType, read_atoms, read_type};
 use sqlite_items::Items;
 use std::alloc::Global;
 use std::test::Fail;

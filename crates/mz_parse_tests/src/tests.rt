@@ -1,5 +1,5 @@
 //! What is parsed: each alternative of the grammar, where a refusal stands, and the limit of brackets.
-use super::*;
+use mz_parse::{SyntaxFault, parse};
 use mz_token::{Kind, Token, Tokens, tokens};
 use sqlite_items::Items;
 use std::alloc::Global;
