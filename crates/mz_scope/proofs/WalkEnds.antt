@@ -13,7 +13,8 @@ use Rattle.mz_scope.specs.Syntax.{Declaration}
 use Rattle.mz_scope.specs.Names.{Globals, globals_of}
 use Rattle.mz_scope.specs.Making.{Made, Came_to, nothing_made}
 use Rattle.mz_scope.specs.Declarations.{declarations}
-use Rattle.mz_scope.specs.Flattening.{flattened, has_no_param, program_in, faults_in, faults_of, has_main, flat_program, Flattens}
+use Rattle.mz_scope.specs.Flattening.{flattened, program_in, faults_in, faults_of, flat_program, Flattens}
+use Rattle.mz_tree.specs.Main.{has_no_param, has_main}
 use Rattle.mz_scope.specs.Walking.{Walks}
 use Rattle.mz_scope.specs.View.{made_of}
 

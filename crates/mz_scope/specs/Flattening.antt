@@ -1,9 +1,8 @@
 -- The flat program of a source, and all that is wrong with its names and shapes. The program is total: where something is
 -- wrong it is of no use, and it says only where later faults stand.
-use Rattle.std.specs.Prelude.{◌≡◌, ◌==◌, ◌&&◌, Bool, true, false, List, [], Option, Some, None, codes, slice_get}
-use Rattle.std.specs.List.{list_any}
-use Rattle.std.specs.Str.{bytes_eq}
-use Rattle.mz_tree.specs.Programs.{Sig, Fun, Program}
+use Rattle.std.specs.Prelude.{◌≡◌, Bool, true, false, List, []}
+use Rattle.mz_tree.specs.Programs.{Program}
+use Rattle.mz_tree.specs.Main.{has_main}
 use Rattle.mz_scope.specs.declared.fault.Fault.{Fault}
 use Rattle.mz_scope.specs.Syntax.{Declaration}
 use Rattle.mz_scope.specs.Names.{globals_of}
@@ -27,16 +26,6 @@ faults_in (Came_to program made) = made.faults
 
 abbrev pub faults_of : List Declaration → List Fault
 faults_of tree = faults_in (flattened tree)
-
--- ---- the function that a program begins with
-
-abbrev pub has_no_param : Option Sig → Bool
-has_no_param None = false
-has_no_param (Some sig) = sig.count == 0
-
--- whether there is a function `main` whose signature has no parameter
-abbrev pub has_main : Program → Bool
-has_main p = list_any (λ (f : Fun). bytes_eq f.name (codes "main") && has_no_param (slice_get p.sigs f.sig)) p.funs
 
 -- ---- sources without faults
 

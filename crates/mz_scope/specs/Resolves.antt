@@ -7,7 +7,8 @@ use Rattle.mz_scope.specs.declared.resolution.ScopeFault.{ScopeFault}
 use Rattle.mz_scope.specs.declared.resolution.ScopeFault.TheVariants.{Unknown, Twice, Shape, NotExhaustive, TooMany, NoMain, Memory}
 use Rattle.mz_scope.specs.Syntax.{Declaration}
 use Rattle.mz_scope.specs.Faults.{IsFirst}
-use Rattle.mz_scope.specs.Flattening.{flat_program, faults_of, has_main, Flattens}
+use Rattle.mz_scope.specs.Flattening.{flat_program, faults_of, Flattens}
+use Rattle.mz_tree.specs.Main.{has_main}
 
 -- the flat program, where nothing is wrong; the first fault of all; or no `main`, where nothing else is wrong
 abbrev pub Resolves : List Declaration → Result CodeProgram ScopeFault → Type 0

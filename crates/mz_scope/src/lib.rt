@@ -44,6 +44,3 @@ mod words;
 
 pub use laws::at_most_one_program;
 pub use resolution::{ScopeFault, resolve};
-
-#[cfg(test)]
-mod tests;

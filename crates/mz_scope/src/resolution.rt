@@ -6,7 +6,8 @@ ghost use Rattle.mz_tree.specs.View.{plain_sig, plain_program};
 ghost use Rattle.mz_scope.specs.Syntax.{Declaration as PlainDeclaration};
 ghost use Rattle.mz_scope.specs.Trees.{tree_of};
 ghost use Rattle.mz_scope.specs.Faults.{IsFirst};
-ghost use Rattle.mz_scope.specs.Flattening.{faults_of, has_no_param, has_main};
+ghost use Rattle.mz_scope.specs.Flattening.{faults_of};
+ghost use Rattle.mz_tree.specs.Main.{has_no_param, has_main};
 ghost use Rattle.mz_scope.specs.Resolves.{Resolves};
 ghost use Rattle.mz_scope.specs.Walking.{Walks};
 

@@ -5,7 +5,7 @@ use Rattle.std.specs.List.{list_any, range_with_len}
 use Rattle.std.proofs.lemmas.Bool.{eq-eqb, cases_eq}
 use Rattle.mz_scope.specs.Syntax.{Word}
 use Rattle.mz_scope.specs.Names.{numbered}
-use Rattle.mz_scoped.specs.Scoped.{Bound, IsBound, names_below}
+use Rattle.mz_tree.specs.Scoped.{Bound, IsBound, names_below}
 use Rattle.mz_scoped.proofs.Grounds.{AreIn}
 use Rattle.mz_scoped.proofs.FirstNames.{number_under, number_under_more}
 

@@ -2,7 +2,7 @@
 use Rattle.std.proofs.Common.{◌≡◌, ℕ, List, [], ◌∷◌, ◌++◌, refl, sym, ap, ◌∙◌, append_assoc, append-nil}
 use Rattle.mz_tree.specs.Code.{Command, commands_of}
 use Rattle.mz_tree.specs.Programs.{Program}
-use Rattle.mz_scoped.specs.Scoped.{Scope, IsBound, IsCommand, AreCommands, with_bound, after_command, after_commands, adopting_command, adopting_commands}
+use Rattle.mz_tree.specs.Scoped.{Scope, IsBound, IsCommand, AreCommands, with_bound, after_command, after_commands, adopting_command, adopting_commands}
 
 -- how many names stand after commands that are behind so many
 abbrev pub all_after : ℕ → List Command → ℕ

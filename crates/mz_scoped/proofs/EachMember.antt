@@ -1,6 +1,6 @@
 -- What holds of each member of a list, along the list.
 use Rattle.std.proofs.Common.{◌≡◌, zero, suc, List, [], ◌∷◌, subst}
-use Rattle.mz_scoped.specs.Scoped.{Each}
+use Rattle.mz_tree.specs.Scoped.{Each}
 
 -- of no member
 pub each_none : {A : Type 0} (P : A → Type 0) → Each (λ _ a. P a) []

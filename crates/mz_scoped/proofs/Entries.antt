@@ -6,7 +6,7 @@ use Rattle.mz_scope.specs.Syntax.{Word}
 use Rattle.mz_scope.specs.Names.{Names, find, Globals, TypeEntry, TypeName, Data_name, Sig_name, data_of, ConEntry}
 use Rattle.mz_scope.specs.Making.{Made}
 use Rattle.mz_scope.specs.Types.{con_by_name, data_by_name}
-use Rattle.mz_scoped.specs.Scoped.{Each}
+use Rattle.mz_tree.specs.Scoped.{Each}
 use Rattle.mz_scoped.proofs.Goes.{Goes, weakened, is_declared}
 use Rattle.mz_scoped.proofs.TopLists.{found_at}
 use Rattle.mz_scoped.proofs.Grounds.{IsEntry, Grounds}

@@ -7,7 +7,7 @@ use Rattle.mz_tree.specs.Code.{Op, Int_op, Fun_op, Command, The_command}
 use Rattle.mz_tree.specs.Programs.{Program}
 use Rattle.mz_scope.specs.Names.{Names, find}
 use Rattle.mz_scope.specs.Making.{Made}
-use Rattle.mz_scoped.specs.Scoped.{Scope, Bound, IsBound, Each, IsOp, FitsBound, unspelled, function_in, bound_by, after_op, adopting_op}
+use Rattle.mz_tree.specs.Scoped.{Scope, Bound, IsBound, Each, IsOp, FitsBound, unspelled, function_in, bound_by, after_op, adopting_op}
 use Rattle.mz_scoped.proofs.Proper.{AllOf}
 use Rattle.mz_scoped.proofs.Grounds.{pairs_of}
 use Rattle.mz_scoped.proofs.CommandChains.{all_after, after_more, all_adopting, adopting_more, scope_after, scope_more, AreChained, chained_more}

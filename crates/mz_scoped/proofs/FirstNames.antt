@@ -9,7 +9,7 @@ use Rattle.mz_scope.specs.Syntax.{Word}
 use Rattle.mz_scope.specs.Names.{Names, find, numbered}
 use Rattle.mz_scope.specs.Making.{Made}
 use Rattle.mz_scope.specs.Declarations.{is_other, declares}
-use Rattle.mz_scoped.specs.Scoped.{Each, AreApart}
+use Rattle.mz_tree.specs.Scoped.{Each, AreApart}
 use Rattle.mz_scoped.proofs.Goes.{Goes, first_and, weakened, not_so}
 use Rattle.mz_scoped.proofs.TopLists.{FoundAt, found_at}
 

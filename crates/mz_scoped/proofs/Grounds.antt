@@ -3,7 +3,7 @@ use Rattle.std.specs.Prelude.{◌≡◌, ℕ, ◌<◌, List, ◌++◌, map, leng
 use Rattle.mz_tree.specs.Programs.{Clause, Program}
 use Rattle.mz_scope.specs.Names.{Names, find, Globals, TypeEntry, Data_name, Sig_name, ConEntry, FunEntry}
 use Rattle.mz_scope.specs.Making.{Made}
-use Rattle.mz_scoped.specs.Scoped.{Scope, IsBound, Each, HasFields, IsConOf, Takes}
+use Rattle.mz_tree.specs.Scoped.{Scope, IsBound, Each, HasFields, IsConOf, Takes}
 
 module _ (p : Program) where
   -- a constructor's entry tells its data type and its fields

@@ -2,7 +2,7 @@
 use Rattle.std.proofs.Common.{◌≡◌, ℕ, zero, suc, ◌+◌, ◌≤◌, false, List, [], ◌∷◌, ◌++◌, map, length, Some, None, refl, subst, arith}
 use Rattle.std.specs.Prelude.{◌==◌, slice_get}
 use Rattle.std.proofs.lemmas.Bool.{eqb-false}
-use Rattle.mz_scoped.specs.Scoped.{Each}
+use Rattle.mz_tree.specs.Scoped.{Each}
 use Rattle.mz_scoped.proofs.Proper.{AllOf}
 
 -- the first has the number n

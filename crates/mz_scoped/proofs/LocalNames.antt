@@ -5,7 +5,7 @@ use Rattle.std.specs.Str.{bytes_eq}
 use Rattle.mz_tree.specs.Programs.{Program}
 use Rattle.mz_scope.specs.Syntax.{Word}
 use Rattle.mz_scope.specs.Names.{Names, find, numbered}
-use Rattle.mz_scoped.specs.Scoped.{Scope, Bound, IsBound, names_below}
+use Rattle.mz_tree.specs.Scoped.{Scope, Bound, IsBound, names_below}
 use Rattle.mz_scoped.proofs.Proper.{AllOf}
 use Rattle.mz_scoped.proofs.Grounds.{AreIn}
 use Rattle.mz_scoped.proofs.FineCommands.{all_map, bound_more, bound_here, IsSound, IsLocal, AreLocal}

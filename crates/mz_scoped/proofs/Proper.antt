@@ -2,7 +2,7 @@
 -- class, numbers are in range, lists that must have a member have one, and no type has more brackets open at once than may be.
 use Rattle.std.specs.Prelude.{◌≡◌, ◌≢◌, ℕ, suc, ◌^◌, ◌≤◌, ◌<◌, List, [], ◌∷◌}
 use Rattle.mz_scope.specs.Syntax.{TypeTree, AtomTree, AtomTrees, Lock_tree, Block_tree, Has_tree, Same_tree, No_atom_trees, More_atom_trees, Expr, Number_expr, Unit_expr, Name_expr, Arith_expr, Call_expr, New_expr, Read_expr, Write_expr, New_lock_expr, Print_expr, If_expr, Match_expr, Retag_expr, Give_expr, Take_expr, Acquire_expr, Release_expr, Spawn_expr, Exprs, No_exprs, More_exprs, FieldValues, No_values, More_values, Block, The_block, BlockItem, Let_item, Plain_item, BlockItems, No_items, More_items, Value, No_value, The_value, Arms, No_arms, More_arms, FieldTree, ConTree, DataTree, ParamTree, NeedTree, SigTree, FunTree, Declaration, Data_declaration, Sig_declaration, Fun_declaration}
-use Rattle.mz_scoped.specs.Scoped.{IsLowerName, IsUpperName}
+use Rattle.mz_tree.specs.Scoped.{IsLowerName, IsUpperName}
 
 -- something holds of each member
 abbrev pub AllOf : {A : Type 0} → (A → Type 0) → List A → Type 0

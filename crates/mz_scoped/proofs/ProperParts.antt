@@ -15,12 +15,12 @@ use Rattle.mz_parse.specs.declared.bodies.Select.{Select as CodeSelect}
 use Rattle.mz_parse.specs.declared.bodies.Sum.{Sum, out-roll-Sum}
 use Rattle.mz_parse.specs.declared.bodies.Term.{Term, out-Term, out-roll-Term}
 use Rattle.mz_parse.specs.Trees.{comparison_of, comparing_of, sum_of, term_of, product_of, block_of}
-use Rattle.mz_token.specs.Shapes.{Lower_shape}
+use Rattle.mz_tree.specs.Shapes.{Lower_shape}
 use Rattle.mz_scope.specs.Syntax.{Expr, Arith_expr, Read_expr, BlockItem, Let_item, Plain_item, BlockItems, No_arms}
 use Rattle.mz_scope.specs.Trees.{operator_in, select_of, selected, write_to, let_item, let_items, item_value, value_of, items_of, item_tree, expr_tree, comparison_tree, sum_tree, term_tree, product_tree, block_tree}
 use Rattle.mz_scope.specs.Lists.{postfix_tree, factors_on, terms_on, compared_with, exprs_of, values_of, arms_of}
 use Rattle.mz_scope.proofs.TreeForms.{product_tree_is, sum_tree_is, term_tree_is, comparing_tree_is, comparison_tree_is}
-use Rattle.mz_scoped.specs.Scoped.{IsLowerName}
+use Rattle.mz_tree.specs.Scoped.{IsLowerName}
 use Rattle.mz_scoped.proofs.Proper.{AllOf, IsProperExpr, AreProperExprs, AreProperValues, IsProperBlock, IsProperItem, AreProperItems, IsProperValue, AreProperArms}
 
 -- ---- lists

@@ -4,13 +4,14 @@ use Rattle.std.proofs.Common.{◌≡◌, ℕ, ◌+◌, ◌-◌, ◌^◌, ◌≤�
 use Rattle.std.proofs.lemmas.List.{take_at, drop_at}
 use Rattle.mz_token.specs.declared.token.Kind.{Kind}
 use Rattle.mz_token.specs.declared.token.Token.{Token}
-use Rattle.mz_token.specs.Tables.{key_texts, number_in}
+use Rattle.mz_tree.specs.Spellings.{key_texts, number_in}
 use Rattle.mz_token.specs.Tokens.{text_of, is_lower, is_upper, is_number}
-use Rattle.mz_token.specs.Shapes.{Shape, Blank_shape, Comment_shape, Lower_shape, Upper_shape, Number_shape, Mark_shape, shape_of, IsLawful, key_or_lower, kind_of}
+use Rattle.mz_token.specs.Shapes.{IsLawful, key_or_lower, kind_of}
+use Rattle.mz_tree.specs.Shapes.{Shape, Blank_shape, Comment_shape, Lower_shape, Upper_shape, Number_shape, Mark_shape, shape_of}
 use Rattle.mz_token.specs.Lexes.{Piece, IsCut, Lexes, joined, with_token, tokens_after}
 use Rattle.mz_types.specs.Words.{lower, upper, number}
 use Rattle.mz_scope.specs.Trees.{number_in as value_in}
-use Rattle.mz_scoped.specs.Scoped.{IsLowerName, IsUpperName}
+use Rattle.mz_tree.specs.Scoped.{IsLowerName, IsUpperName}
 use Rattle.mz_scoped.proofs.Proper.{AllOf}
 
 -- a kind that a text may have; a number is a u64

@@ -7,7 +7,7 @@ use Rattle.mz_tree.specs.Programs.{Con, Program}
 use Rattle.mz_scope.specs.Syntax.{Arms, No_arms, More_arms}
 use Rattle.mz_scope.specs.Names.{find, Globals, ConEntry}
 use Rattle.mz_scope.specs.Bodies.{is_number_among, lacks_one, with_number, match_data, arm_cons, is_misplaced, lacks_a_case}
-use Rattle.mz_scoped.specs.Scoped.{IsConOf, AreAll}
+use Rattle.mz_tree.specs.Scoped.{IsConOf, AreAll}
 use Rattle.mz_scoped.proofs.Proper.{AllOf}
 use Rattle.mz_scoped.proofs.Grounds.{IsEntry, Grounds}
 use Rattle.mz_scoped.proofs.Numbers.{none_passes, IsOnce, once_more, just_once}

@@ -9,7 +9,7 @@ use Rattle.mz_scope.specs.Making.{Made, Came, Came_to, Part, ◌>>=◌, fault_if
 use Rattle.mz_scope.specs.Types.{are_fields, con_by_name, flat_atoms}
 use Rattle.mz_scope.specs.Bodies.{spell, local_name, own_name, body_came, has_other_count, differ_in_fields, match_data, lacks_a_case, field_in, select_con, named, name_value, flat_expression, flat_expressions, flat_values, flat_cases, flat_block, flat_items, flat_item, flat_value}
 use Rattle.mz_scope.specs.Bodies.{given as given_atoms}
-use Rattle.mz_scoped.specs.Scoped.{Scope, IsBody, names_after, adopting_body}
+use Rattle.mz_tree.specs.Scoped.{Scope, IsBody, names_after, adopting_body}
 use Rattle.mz_scoped.proofs.Grounds.{Grounds, pairs_of}
 use Rattle.mz_scoped.proofs.Goes.{Goes, value_in, made_in, first_then, weakened, added, given, not_so}
 use Rattle.mz_scoped.proofs.KeptNames.{Spells, IsLast, Ends, ends_command, ends_then, last_spells, spelled_length, one_longer}

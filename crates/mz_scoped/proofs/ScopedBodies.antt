@@ -9,7 +9,7 @@ use Rattle.mz_scope.specs.Names.{Names, numbered, Globals}
 use Rattle.mz_scope.specs.Making.{CoreName, Made, Came, Came_to, Part}
 use Rattle.mz_scope.specs.Bodies.{flat_block}
 use Rattle.mz_scope.specs.Declarations.{FunctionBody, param_name, body_made, with_params}
-use Rattle.mz_scoped.specs.Scoped.{IsBody, names_below, names_after, adopting_body}
+use Rattle.mz_tree.specs.Scoped.{IsBody, names_below, names_after, adopting_body}
 use Rattle.mz_scoped.proofs.Proper.{AllOf, IsProperExpr, AreProperExprs, AreProperValues, IsProperBlock, IsProperItem, AreProperItems, IsProperValue, AreProperArms}
 use Rattle.mz_scoped.proofs.Grounds.{Grounds, pairs_of}
 use Rattle.mz_scoped.proofs.Goes.{Goes, value_in, made_in}

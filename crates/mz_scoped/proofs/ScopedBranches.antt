@@ -9,7 +9,7 @@ use Rattle.mz_scope.specs.Names.{Names, find, Globals, ConEntry}
 use Rattle.mz_scope.specs.Making.{Made, next_name}
 use Rattle.mz_scope.specs.Types.{number_of}
 use Rattle.mz_scope.specs.Bodies.{match_data, arm_cons, is_misplaced, with_number, lacks_a_case, given, flat_expression, flat_cases}
-use Rattle.mz_scoped.specs.Scoped.{Scope, IsBody, AreCases, AreAll, AreAtomsWithin, names_after, after_cases, case_cons, adopting_atoms, adopting_body, adopting_cases}
+use Rattle.mz_tree.specs.Scoped.{Scope, IsBody, AreCases, AreAll, AreAtomsWithin, names_after, after_cases, case_cons, adopting_atoms, adopting_body, adopting_cases}
 use Rattle.mz_scoped.proofs.Proper.{AreProperAtoms}
 use Rattle.mz_scoped.proofs.Grounds.{Grounds, IsEntry, AreIn, pairs_of}
 use Rattle.mz_scoped.proofs.Goes.{Goes, first_then, weakened, added, not_so}

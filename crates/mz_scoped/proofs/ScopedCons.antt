@@ -7,7 +7,7 @@ use Rattle.mz_scope.specs.Syntax.{Word, FieldTree, ConTree}
 use Rattle.mz_scope.specs.Names.{Names, find, numbered, Globals, ConEntry, con_names_in}
 use Rattle.mz_scope.specs.Types.{flat_typed}
 use Rattle.mz_scope.specs.Declarations.{fields_from, cons_from}
-use Rattle.mz_scoped.specs.Scoped.{Each, AreApart, names_below, IsAtomWithin, adopting_atom, IsField, IsCon}
+use Rattle.mz_tree.specs.Scoped.{Each, AreApart, names_below, IsAtomWithin, adopting_atom, IsField, IsCon}
 use Rattle.mz_scoped.proofs.Proper.{AllOf, IsProperField, IsProperCon}
 use Rattle.mz_scoped.proofs.Grounds.{Grounds, AreIn}
 use Rattle.mz_scoped.proofs.Goes.{Goes, first_then, first_and, framed, given}

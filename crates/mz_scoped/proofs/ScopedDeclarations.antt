@@ -12,8 +12,9 @@ use Rattle.mz_tree.specs.Programs.{Variety, Con, Sig, Fun, Clause, Program}
 use Rattle.mz_scope.specs.Syntax.{Declaration, Data_declaration, Sig_declaration, Fun_declaration}
 use Rattle.mz_scope.specs.Names.{Names, find, globals_of, TypeEntry, TypeName, Data_name, Sig_name, type_names, ConEntry, FunEntry}
 use Rattle.mz_scope.specs.Making.{Came, Came_to, nothing_made}
-use Rattle.mz_scope.specs.Flattening.{flattened, program_in, flat_program, faults_in, faults_of, has_main, has_no_param}
-use Rattle.mz_scoped.specs.Scoped.{Each, AreApart, IsConOf, adopting_body, all_adopting, AreClauses, Scoped}
+use Rattle.mz_scope.specs.Flattening.{flattened, program_in, flat_program, faults_in, faults_of}
+use Rattle.mz_tree.specs.Main.{has_main, has_no_param}
+use Rattle.mz_tree.specs.Scoped.{Each, AreApart, IsConOf, adopting_body, all_adopting, AreClauses, Scoped}
 use Rattle.mz_scoped.proofs.Proper.{AllOf, IsProper}
 use Rattle.mz_scoped.proofs.Grounds.{Grounds, pairs_of}
 use Rattle.mz_scoped.proofs.Goes.{value_in, made_in}

@@ -11,7 +11,7 @@ use Rattle.mz_scope.specs.Syntax.{Word, ConTree, DataTree, ParamTree, SigTree, F
 use Rattle.mz_scope.specs.Names.{Names, find, Globals, TypeEntry, TypeName, Data_name, Sig_name, type_names, ConEntry, con_names_in, con_names, param_lists, FunEntry, fun_names}
 use Rattle.mz_scope.specs.Making.{Made}
 use Rattle.mz_scope.specs.Declarations.{adopted_by, data_type, declarations, no_program}
-use Rattle.mz_scoped.specs.Scoped.{Each, IsLowerName, IsCon, IsSig, IsFun, adopting_body}
+use Rattle.mz_tree.specs.Scoped.{Each, IsLowerName, IsCon, IsSig, IsFun, adopting_body}
 use Rattle.mz_scoped.proofs.Proper.{AllOf, IsProper, IsProperData}
 use Rattle.mz_scoped.proofs.Grounds.{Grounds, pairs_of}
 use Rattle.mz_scoped.proofs.Goes.{Goes, first_then, first_and, framed, given}

@@ -10,7 +10,7 @@ use Rattle.mz_scope.specs.Names.{Names, find, Globals, ConEntry}
 use Rattle.mz_scope.specs.Making.{Made, add_command}
 use Rattle.mz_scope.specs.Types.{number_of, in_order, con_by_name, flat_atoms}
 use Rattle.mz_scope.specs.Bodies.{field_in, has_other_count, differ_in_fields, flat_expression, flat_expressions, flat_values}
-use Rattle.mz_scoped.specs.Scoped.{Scope, Bound, IsBound, AreBound, HasFields, HasField, AreAlike, FitsBound, FitsCall, AreAtomsWithin, adopting_atoms}
+use Rattle.mz_tree.specs.Scoped.{Scope, Bound, IsBound, AreBound, HasFields, HasField, AreAlike, FitsBound, FitsCall, AreAtomsWithin, adopting_atoms}
 use Rattle.mz_scoped.proofs.Proper.{AllOf, AreProperAtoms}
 use Rattle.mz_scoped.proofs.Grounds.{Grounds, IsEntry, AreIn, Adds}
 use Rattle.mz_scoped.proofs.Goes.{Goes, first_then, weakened, framed, given, not_so, is_declared}

@@ -10,7 +10,7 @@ use Rattle.mz_scope.specs.Syntax.{Word}
 use Rattle.mz_scope.specs.Names.{Names, find, ConEntry}
 use Rattle.mz_scope.specs.Making.{Made}
 use Rattle.mz_scope.specs.Types.{is_among, are_apart, names_in, is_each_once, in_order, is_field, are_fields}
-use Rattle.mz_scoped.specs.Scoped.{Each, Scope, IsBound, AreBound}
+use Rattle.mz_tree.specs.Scoped.{Each, Scope, IsBound, AreBound}
 use Rattle.mz_scoped.proofs.Goes.{Goes, weakened, given, not_so}
 use Rattle.mz_scoped.proofs.Entries.{found_holds}
 use Rattle.mz_scoped.proofs.EachMember.{each_none, each_more}

@@ -8,7 +8,7 @@ use Rattle.mz_scope.specs.Names.{find, numbered, Globals, TypeEntry, TypeName, D
 use Rattle.mz_scope.specs.Making.{CoreName, Made}
 use Rattle.mz_scope.specs.Bodies.{flat_block}
 use Rattle.mz_scope.specs.Declarations.{FunctionBody, with_params, too_many, params_by_name, function}
-use Rattle.mz_scoped.specs.Scoped.{IsFun, adopting_body}
+use Rattle.mz_tree.specs.Scoped.{IsFun, adopting_body}
 use Rattle.mz_scoped.proofs.Proper.{IsProperFun}
 use Rattle.mz_scoped.proofs.Grounds.{Grounds}
 use Rattle.mz_scoped.proofs.Goes.{Goes, first_then, first_and, weakened, framed, given, not_so, is_declared}

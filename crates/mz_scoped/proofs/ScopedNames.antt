@@ -6,7 +6,7 @@ use Rattle.mz_tree.specs.Programs.{Program}
 use Rattle.mz_scope.specs.Syntax.{Word}
 use Rattle.mz_scope.specs.Names.{Names, find, Globals, FunEntry}
 use Rattle.mz_scope.specs.Bodies.{has_other_count, named, name_value}
-use Rattle.mz_scoped.specs.Scoped.{Bound, Takes, FitsBound, unspelled}
+use Rattle.mz_tree.specs.Scoped.{Bound, Takes, FitsBound, unspelled}
 use Rattle.mz_scoped.proofs.Grounds.{Grounds}
 use Rattle.mz_scoped.proofs.Goes.{Goes, first_then, given, is_declared}
 use Rattle.mz_scoped.proofs.FineCommands.{Held, Callee_held, all_map}

@@ -6,7 +6,7 @@ use Rattle.mz_tree.specs.Code.{Op, Command, The_command}
 use Rattle.mz_tree.specs.Programs.{Program}
 use Rattle.mz_scope.specs.Names.{Names}
 use Rattle.mz_scope.specs.Making.{CoreName, Made, Part, add_command}
-use Rattle.mz_scoped.specs.Scoped.{Scope, IsOp, bound_by, after_op, adopting_op}
+use Rattle.mz_tree.specs.Scoped.{Scope, IsOp, bound_by, after_op, adopting_op}
 use Rattle.mz_scoped.proofs.Proper.{AllOf}
 use Rattle.mz_scoped.proofs.Grounds.{pairs_of}
 use Rattle.mz_scoped.proofs.Goes.{Goes, made_in, weakened, commanded}

@@ -7,7 +7,7 @@ use Rattle.mz_scope.specs.Syntax.{Word}
 use Rattle.mz_scope.specs.Names.{Names, find, Globals, ConEntry, FunEntry, holders}
 use Rattle.mz_scope.specs.Making.{Made}
 use Rattle.mz_scope.specs.Bodies.{differs, has_other_count, differ_in_fields, field_in, the_holder, select_con}
-use Rattle.mz_scoped.specs.Scoped.{HasFields, HasField, AreAlike, Takes}
+use Rattle.mz_tree.specs.Scoped.{HasFields, HasField, AreAlike, Takes}
 use Rattle.mz_scoped.proofs.Proper.{AllOf}
 use Rattle.mz_scoped.proofs.Grounds.{IsEntry, Grounds}
 use Rattle.mz_scoped.proofs.Goes.{Goes, weakened, given, is_declared}

@@ -9,7 +9,7 @@ use Rattle.mz_scope.specs.Syntax.{Word, AtomTrees, ParamTree, NeedTree, SigTree}
 use Rattle.mz_scope.specs.Names.{Names, find, Globals, TypeEntry}
 use Rattle.mz_scope.specs.Types.{flat_typed, flat_atom, flat_atoms}
 use Rattle.mz_scope.specs.Declarations.{is_other, params_of, all_of, params_from, needs_of, signature}
-use Rattle.mz_scoped.specs.Scoped.{names_below, IsAtomWithin, AreAtomsWithin, adopting_atom, adopting_atoms, IsSig}
+use Rattle.mz_tree.specs.Scoped.{names_below, IsAtomWithin, AreAtomsWithin, adopting_atom, adopting_atoms, IsSig}
 use Rattle.mz_scoped.proofs.Proper.{AllOf, IsProperType, IsProperAtom, AreProperAtoms, IsProperSig}
 use Rattle.mz_scoped.proofs.Grounds.{Grounds, AreIn}
 use Rattle.mz_scoped.proofs.Goes.{Goes, first_then, first_and, weakened, framed, given, not_so}

@@ -1,7 +1,7 @@
 -- The program of a text that reads is scoped.
 use Rattle.std.proofs.Common.{sym, subst}
 use Rattle.mz_scope.specs.Trees.{tree_of}
-use Rattle.mz_scoped.specs.Scoped.{Scoped}
+use Rattle.mz_tree.specs.Scoped.{Scoped}
 use Rattle.mz_scoped.specs.Laws.{WhatReadsIsScoped}
 use Rattle.mz_scoped.proofs.ProperTexts.{proper_tree}
 use Rattle.mz_scoped.proofs.ScopedDeclarations.{scoped_of}

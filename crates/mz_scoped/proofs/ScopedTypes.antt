@@ -8,7 +8,7 @@ use Rattle.mz_scope.specs.Syntax.{Word, FieldName, TypeTree, AtomTree, AtomTrees
 use Rattle.mz_scope.specs.Names.{Names, find, Globals, TypeEntry, TypeName, Data_name, Sig_name, ConEntry}
 use Rattle.mz_scope.specs.Making.{Made, Part, ◌>>=◌, ◌>>◌, give, add_clause, declared_or}
 use Rattle.mz_scope.specs.Types.{number_of, in_order, is_field, are_fields, name_in, con_by_name, data_by_name, type_by_name, adopted, flat_field_names, flat_typed, flat_atom, flat_atoms}
-use Rattle.mz_scoped.specs.Scoped.{Each, Scope, IsBound, HasFields, IsType, AreGuarded, IsAtomWithin, AreAtomsWithin, depth_in, adopting, adopting_atom, adopting_in, adopting_atoms}
+use Rattle.mz_tree.specs.Scoped.{Each, Scope, IsBound, HasFields, IsType, AreGuarded, IsAtomWithin, AreAtomsWithin, depth_in, adopting, adopting_atom, adopting_in, adopting_atoms}
 use Rattle.mz_scoped.proofs.Proper.{IsProperType, IsProperAtom, AreProperAtoms}
 use Rattle.mz_scoped.proofs.Goes.{Goes, first_then, weakened, framed, given, is_declared}
 use Rattle.mz_scoped.proofs.Grounds.{IsEntry, Grounds, AreIn, Adds}

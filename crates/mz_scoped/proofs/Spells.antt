@@ -11,7 +11,7 @@ use Rattle.mz_types.specs.Words.{Spelling, Low, Up, Key, Mark, Name, number, tur
 use Rattle.mz_types.proofs.Singles.{lower_has, upper_has, number_has, key_has, mark_has, name_has}
 use Rattle.mz_parse.specs.Grammar.{Separated, MaybeSeparated, MaybeBehind, Such}
 use Rattle.mz_scope.specs.Trees.{number_in}
-use Rattle.mz_scoped.specs.Scoped.{IsLowerName, IsUpperName}
+use Rattle.mz_tree.specs.Scoped.{IsLowerName, IsUpperName}
 use Rattle.mz_scoped.proofs.Proper.{AllOf}
 use Rattle.mz_scoped.proofs.ProperTokens.{IsGood}
 

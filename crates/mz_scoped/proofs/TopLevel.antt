@@ -9,7 +9,7 @@ use Rattle.mz_scope.specs.Names.{Names, find, globals_of, TypeEntry, type_names,
 use Rattle.mz_scope.specs.Making.{Came, Came_to, nothing_made}
 use Rattle.mz_scope.specs.Flattening.{flattened, program_in, flat_program, faults_in, faults_of}
 use Rattle.mz_scope.proofs.Lists.{map_at}
-use Rattle.mz_scoped.specs.Scoped.{Each, HasFields, IsConOf, Takes}
+use Rattle.mz_tree.specs.Scoped.{Each, HasFields, IsConOf, Takes}
 use Rattle.mz_scoped.proofs.Goes.{value_in, made_in}
 use Rattle.mz_scoped.proofs.Grounds.{IsEntry, Grounds}
 use Rattle.mz_scoped.proofs.TopLists.{all_at, all_found, FoundAt, found_at, Comes_from, comes_from, Stands, stands, order_at, range_at, once_in_row}

@@ -2,7 +2,7 @@
 use Rattle.std.specs.Prelude.{ℕ, List}
 use Rattle.mz_tree.specs.Programs.{Program}
 use Rattle.mz_scope.specs.Reads.{Reads}
-use Rattle.mz_scoped.specs.Scoped.{Scoped}
+use Rattle.mz_tree.specs.Scoped.{Scoped}
 
 -- the program of a text is scoped
 abbrev pub WhatReadsIsScoped : Type 0

@@ -4,7 +4,7 @@ use Rattle.std.specs.Str.{bytes_eq}
 use Rattle.std.proofs.Math.ListN.{drop_of_length-le}
 use Rattle.mz_tree.specs.Programs.{Fun}
 use Rattle.mz_tree.specs.View.{plain_fun, plain_program}
-use Rattle.mz_scope.specs.Flattening.{has_no_param}
+use Rattle.mz_tree.specs.Main.{has_no_param}
 use Rattle.mz_scope.proofs.resolution.has_main.Goals as goal
 
 pub returns : goal.returns

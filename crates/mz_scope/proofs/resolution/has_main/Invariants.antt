@@ -3,7 +3,7 @@ use Rattle.std.specs.List.{list_any}
 use Rattle.std.specs.Str.{bytes_eq}
 use Rattle.mz_tree.specs.Programs.{Fun}
 use Rattle.mz_tree.specs.View.{plain_fun, plain_program}
-use Rattle.mz_scope.specs.Flattening.{has_no_param, has_main}
+use Rattle.mz_tree.specs.Main.{has_no_param, has_main}
 use Rattle.mz_scope.proofs.resolution.has_main.Given as goal
 
 abbrev pub invariant-loop-i : goal.invariant-loop-i

@@ -1,6 +1,6 @@
 //! Each refusal at each kind of place, both sides of each limit, and what lawful texts come to.
-use crate::{ScopeFault, resolve};
 use mz_parse::parse;
+use mz_scope::{ScopeFault, resolve};
 use mz_token::tokens;
 use mz_tree::Place;
 use std::alloc::Global;
