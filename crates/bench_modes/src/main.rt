@@ -2,7 +2,7 @@
 //! the word `half` it is 500 of them. It writes whether the first is affine.
 #![tactic(auto)]
 
-use mz_decl::{is_numbered, well_formed};
+use mz_decl::declarations;
 use mz_modes::modes;
 use mz_tree::{Atom, Con, Field, Memory, Place, Program, Ty, Variety};
 use sqlite_items::Items;
@@ -63,10 +63,7 @@ fn chain(alloc: Global, length: u32) -> Result<Program, Memory> {
 // Whether the first data type of the chain is affine; None where it isn't well formed.
 fn first_is_affine(alloc: Global, length: u32) -> Result<Option<bool>, Memory> {
     let program = chain(alloc, length)?;
-    if !is_numbered(&program) {
-        return Ok(None);
-    }
-    let Ok(decls) = well_formed(alloc, &program) else {
+    let Some(decls) = declarations(alloc, &program)? else {
         return Ok(None);
     };
     match modes(alloc, &decls) {

@@ -3,8 +3,9 @@ use Rattle.std.proofs.Common.{◌≡◌, inl, inr, ℕ, zero, suc, [], ◌∷◌
 use Rattle.std.proofs.lemmas.Bool.{cases_eq}
 use Rattle.std.proofs.lemmas.List.{length-map}
 use Rattle.std.proofs.lemmas.Option.{slice_get-get_or, slice_get_within}
-use Rattle.mz_tree.specs.Programs.{Con}
-use Rattle.mz_tree.specs.View.{plain_con, plain_variety, plain_sig, plain_program}
+use Rattle.mz_tree.specs.Programs.{Con, Program}
+use Rattle.mz_tree.specs.Scoped.{Scoped}
+use Rattle.mz_tree.specs.View.{plain_con, plain_variety, plain_sig, plain_fun, plain_program}
 use Rattle.mz_tree.specs.declared.program.Con.{Con as CodeCon}
 use Rattle.mz_tree.specs.declared.program.Program.{Program as CodeProgram}
 use Rattle.mz_decl.specs.Declarations.{AreBelow, IsNumbered}
@@ -39,11 +40,12 @@ below_next n all i x h e b before = λ k c s g. elim (cases_eq k i) [
 ]
 
 -- all of them
-pub numbered_all : (p : CodeProgram) (n : ℕ) (all : List CodeCon) (i : ℕ) → all ≡ p.cons → n ≡ length p.varieties → length all ≤ i → n ≤ 1000 → length all ≤ 1000 → length p.sigs ≤ 1000 → AreBelowUntil n all i → IsNumbered (plain_program p)
-numbered_all p n all i s v h nv nc ns below = record {
+pub numbered_all : (p : CodeProgram) (n : ℕ) (all : List CodeCon) (i : ℕ) → all ≡ p.cons → n ≡ length p.varieties → length all ≤ i → n ≤ 1000 → length all ≤ 1000 → length p.sigs ≤ 1000 → length p.funs ≤ 1000 → AreBelowUntil n all i → IsNumbered (plain_program p)
+numbered_all p n all i s v h nv nc ns nf below = record {
   few_varieties = omega (arith, nv, v, length-map p.varieties plain_variety);
   few_cons = omega (arith, nc, ap length s, length-map p.cons plain_con);
   few_sigs = omega (arith, ns, length-map p.sigs plain_sig);
+  few_funs = omega (arith, nf, length-map p.funs plain_fun);
   numbered = λ k c g. of_code k c (got plain_con p.cons k c g);
 }
   where
@@ -59,6 +61,16 @@ pub not_numbered : (p : CodeProgram) (n : ℕ) (all : List CodeCon) (i : ℕ) (x
 not_numbered p n all i x s v h e b r =
     let below = r.numbered i (plain_con x) (get_map plain_con p.cons i x (ap (λ l. slice_get l i) (sym s) ∙ item_at all i x h e)) in
     omega (arith, below, b, v, length-map p.varieties plain_variety)
+
+-- the numbers of a scoped program can be declarations
+pub numbered_of : (p : Program) → Scoped p → IsNumbered p
+numbered_of p scoped = record {
+  few_varieties = omega (arith, scoped.few_types);
+  few_cons = scoped.few_cons;
+  few_sigs = omega (arith, scoped.few_types);
+  few_funs = scoped.few_funs;
+  numbered = λ k con here. (scoped.cons k con here).variety;
+}
 
 -- declarations keep it
 pub decls_numbered : (d : CodeDecls) → AreBelow (length (plain_decls d).varieties) (plain_decls d).cons

@@ -1,3 +1,5 @@
 pub mod Places
 pub mod Declarations
+pub mod Contents
+pub mod Signatures
 pub mod View

@@ -2,11 +2,13 @@
 ghost use Rattle.std.specs.Prelude.{◌≡◌, map, IfOk};
 ghost use Rattle.mz_tree.specs.View.{plain_program};
 ghost use Rattle.mz_tree.specs.declared.program.Fun.{Fun as CodeFun};
-ghost use Rattle.mz_decl.specs.Declarations.{IsNumbered};
-ghost use Rattle.mz_decl.specs.View.{Forms};
+ghost use Rattle.mz_tree.specs.Scoped.{Scoped};
+ghost use Rattle.mz_decl.specs.Declarations.{decls_of, IsNumbered};
+ghost use Rattle.mz_decl.specs.View.{plain_decls, Declares, Forms};
 
 use crate::Decls;
 use crate::faults::immutable_adopter;
+use crate::numbers::is_numbered;
 use mz_tree::{Alike, Funs, Memory, Names, Place, Program};
 use sqlite_items::Items;
 use std::alloc::Global;
@@ -32,15 +34,34 @@ impl From<Memory> for DeclFault {
 }
 
 /// The declarations of a program, or the first place at which an `adopts` stands on an immutable data type or on a
-/// structural type of an immutable constructor. The program has at most 1,000 data types, constructors and signatures
-/// each, and each of its constructors belongs to one of its data types.
+/// structural type of an immutable constructor. The program is scoped, as what is read is.
 pub fn well_formed(alloc: Global, program: &Program) -> Result<Decls, DeclFault>
-    requires numbered { IsNumbered (plain_program program.now) }
+    requires scoped { Scoped (plain_program program.now) }
     ensures { Forms (plain_program program.now) result }
 {
     if let Some(place) = immutable_adopter(program) {
         return Err(DeclFault::ImmutableAdopter(place));
     }
+    Ok(copied(alloc, program)?)
+}
+
+/// The declarations of any program that has at most 1,000 data types, constructors, signatures and functions each, and
+/// each of whose constructors belongs to one of its data types; none of another. It doesn't look at where an `adopts`
+/// stands. What is read is to be given to `well_formed`.
+pub fn declarations(alloc: Global, program: &Program) -> Result<Option<Decls>, Memory>
+    ensures { IfOk result (λ found. Declares (plain_program program.now) found) }
+{
+    if is_numbered(program) {
+        return Ok(Some(copied(alloc, program)?));
+    }
+    Ok(None)
+}
+
+// the declarations of a program whose numbers can be declarations
+fn copied(alloc: Global, program: &Program) -> Result<Decls, Memory>
+    requires { IsNumbered (plain_program program.now) }
+    ensures { IfOk result (λ it. plain_decls it ≡ decls_of (plain_program program.now)) }
+{
     let varieties = program.varieties.copy(alloc)?;
     let cons = program.cons.copy(alloc)?;
     let sigs = program.sigs.copy(alloc)?;

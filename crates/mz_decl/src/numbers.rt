@@ -5,17 +5,21 @@ ghost use Rattle.mz_decl.specs.Declarations.{IsNumbered};
 
 use mz_tree::Program;
 
-// the most data types, constructors and signatures that a program has
+// the most data types, constructors, signatures and functions that a program has
 const LIMIT: usize = 1000;
 
-/// Whether a program has at most 1,000 data types, constructors and signatures each, and each of its constructors
-/// belongs to one of its data types: what `well_formed` asks of it. It takes no memory.
-pub fn is_numbered(program: &Program) -> bool
+// whether a program has at most 1,000 data types, constructors, signatures and functions each, and each of its
+// constructors belongs to one of its data types
+pub(crate) fn is_numbered(program: &Program) -> bool
     ensures { IsTrue result ↔ IsNumbered (plain_program program.now) }
 {
     let count = program.varieties.len();
     let all = program.cons.as_slice();
-    if count > LIMIT || all.len() > LIMIT || program.sigs.len() > LIMIT {
+    if count > LIMIT
+        || all.len() > LIMIT
+        || program.sigs.len() > LIMIT
+        || program.funs.len() > LIMIT
+    {
         return false;
     }
     for i in 0..all.len() {

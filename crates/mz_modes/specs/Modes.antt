@@ -18,7 +18,7 @@ pub record AreModes (D : Decls) (m : CodeModes) : Type 0 where
   pub mutable_cons : AreMutableCons D m.mutable_cons
 
 -- the modes, where each `adopts` names an exclusive data type; else the first place of one that doesn't
-abbrev pub Makes : Decls → Result CodeModes ModeFault → Type 0
-Makes D (Ok it) = AreModes D it × IsFirst (IsNotExclusive D) None
-Makes D (Err (NotExclusive place)) = IsFirst (IsNotExclusive D) (Some place)
-Makes D (Err Memory) = Unit {0}
+abbrev pub HasModes : Decls → Result CodeModes ModeFault → Type 0
+HasModes D (Ok it) = AreModes D it × IsFirst (IsNotExclusive D) None
+HasModes D (Err (NotExclusive place)) = IsFirst (IsNotExclusive D) (Some place)
+HasModes D (Err Memory) = Unit {0}

@@ -2,7 +2,7 @@
 ghost use Rattle.std.specs.Prelude.{◌<◌, length};
 ghost use Rattle.mz_decl.specs.Places.{IsFirst, IsBelow};
 ghost use Rattle.mz_decl.specs.View.{plain_decls};
-ghost use Rattle.mz_modes.specs.Affine.{Says};
+ghost use Rattle.mz_tree.specs.Saying.{Says};
 ghost use Rattle.mz_modes.specs.Adopted.{IsImmutable, DeclarationAdopts, StructureAdopts, IsNotExclusive};
 
 use mz_decl::{Decls, earlier};

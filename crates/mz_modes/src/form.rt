@@ -1,6 +1,6 @@
 //! From declarations to their modes.
 ghost use Rattle.mz_decl.specs.View.{plain_decls};
-ghost use Rattle.mz_modes.specs.Modes.{Makes};
+ghost use Rattle.mz_modes.specs.Modes.{HasModes};
 
 use crate::adopted::not_exclusive;
 use crate::marks::{mutable_cons, mutable_varieties, round};
@@ -11,7 +11,7 @@ use std::alloc::Global;
 /// The modes of declarations, or the first place at which an `adopts` names an immutable data type. It goes through all
 /// constructors once more for each data type that it marks, at most.
 pub fn modes(alloc: Global, decls: &Decls) -> Result<Modes, ModeFault>
-    ensures { Makes (plain_decls decls.now) result }
+    ensures { HasModes (plain_decls decls.now) result }
 {
     if let Some(place) = not_exclusive(decls) {
         return Err(ModeFault::NotExclusive(place));

@@ -1,7 +1,8 @@
 //! What modes say of permissions and types.
 ghost use Rattle.mz_tree.specs.View.{plain_atom, plain_ty};
 ghost use Rattle.mz_decl.specs.Declarations.{Decls as PlainDecls};
-ghost use Rattle.mz_modes.specs.Affine.{AffineAtom, ExclusiveTy, Says, Denies};
+ghost use Rattle.mz_modes.specs.Affine.{IsMutable, IsMutableCon, AffineAtom, ExclusiveTy};
+ghost use Rattle.mz_tree.specs.Saying.{Says, Denies};
 ghost use Rattle.mz_modes.specs.Modes.{AreModes};
 
 use crate::marks::is_marked;
@@ -67,24 +68,34 @@ impl Modes {
         }
     }
 
+    /// Whether the data type of this number is mutable. It takes no memory.
+    pub fn is_mutable(&self, variety: u32) -> bool
+        ensures { (D : PlainDecls) → AreModes D self.now → Says result (IsMutable D variety) }
+    {
+        if is_marked(self.mutable.as_slice(), variety) {
+            return true;
+        }
+        false
+    }
+
+    /// Whether the constructor of this number is one of a mutable data type. It takes no memory.
+    pub fn is_mutable_con(&self, con: u32) -> bool
+        ensures { (D : PlainDecls) → AreModes D self.now → Says result (IsMutableCon D con) }
+    {
+        if is_marked(self.mutable_cons.as_slice(), con) {
+            return true;
+        }
+        false
+    }
+
     /// Whether the type is exclusive: a mutable data type, or a structural type of a mutable constructor. It takes no
     /// memory.
     pub fn exclusive(&self, ty: &Ty) -> bool
         ensures { (D : PlainDecls) → AreModes D self.now → Says result (ExclusiveTy D (plain_ty ty.now)) }
     {
         match ty {
-            Ty::Named(data) => {
-                if is_marked(self.mutable.as_slice(), *data) {
-                    return true;
-                }
-                false
-            }
-            Ty::Block { con, .. } => {
-                if is_marked(self.mutable_cons.as_slice(), *con) {
-                    return true;
-                }
-                false
-            }
+            Ty::Named(data) => self.is_mutable(*data),
+            Ty::Block { con, .. } => self.is_mutable_con(*con),
             Ty::Locked => false,
             Ty::Int => false,
             Ty::Unknown => false,

@@ -1,10 +1,12 @@
 //! Which types are duplicable and exclusive, which `adopts` are refused, and what declarations show.
 use crate::*;
-use mz_decl::{DeclFault, Decls, is_numbered, well_formed};
+use mz_decl::{Decls, declarations, immutable_adopter};
 use mz_tree::*;
 use sqlite_items::Items;
 use std::alloc::Global;
 use std::test::Fail;
+
+mod rules;
 
 fn place(line: u32, col: u32) -> Place {
     Place { line, col }
@@ -123,15 +125,12 @@ fn kinds(alloc: Global) -> Result<Program, Memory> {
 }
 
 fn modes_in(alloc: Global, program: &Program) -> Option<Modes> {
-    if !is_numbered(program) {
-        return None;
-    }
-    match well_formed(alloc, program) {
-        Err(_) => None,
-        Ok(decls) => match modes(alloc, &decls) {
+    match declarations(alloc, program) {
+        Ok(Some(decls)) => match modes(alloc, &decls) {
             Ok(modes) => Some(modes),
             Err(_) => None,
         },
+        _ => None,
     }
 }
 
@@ -208,28 +207,14 @@ fn adopting(
     declared(alloc, varieties, cons, clauses)
 }
 
-// the place of an `adopts` on what is immutable
-fn on_immutable(alloc: Global, program: &Program) -> Option<Place> {
-    if !is_numbered(program) {
-        return None;
-    }
-    match well_formed(alloc, program) {
-        Err(DeclFault::ImmutableAdopter(place)) => Some(place),
-        _ => None,
-    }
-}
-
 // the place of an `adopts` that names what is immutable
 fn of_immutable(alloc: Global, program: &Program) -> Option<Place> {
-    if !is_numbered(program) {
-        return None;
-    }
-    match well_formed(alloc, program) {
-        Err(_) => None,
-        Ok(decls) => match modes(alloc, &decls) {
+    match declarations(alloc, program) {
+        Ok(Some(decls)) => match modes(alloc, &decls) {
             Err(ModeFault::NotExclusive(place)) => Some(place),
             _ => None,
         },
+        _ => None,
     }
 }
 
@@ -237,32 +222,26 @@ fn of_immutable(alloc: Global, program: &Program) -> Option<Place> {
 fn the_first_adopts_on_what_is_immutable_is_refused(rt: HostRuntime) -> Result<(), Fail> {
     let alloc = rt.alloc();
     let data = adopting(alloc, Some(1), Some(0), &[(place(3, 1), 0, 1)])?;
-    assert!(rt;
-        on_immutable(alloc, &data) == Some(place(2, 6)),
-        "data type"
-    );
+    assert!(rt; immutable_adopter(&data) == Some(place(2, 6)), "data type");
     let itself = adopting(alloc, Some(0), None, &[])?;
     assert!(rt;
-        on_immutable(alloc, &itself) == Some(place(2, 6)),
+        immutable_adopter(&itself) == Some(place(2, 6)),
         "of itself"
     );
     let later = adopting(alloc, Some(1), None, &[(place(1, 1), 1, 0)])?;
     assert!(rt;
-        on_immutable(alloc, &later) == Some(place(2, 6)),
+        immutable_adopter(&later) == Some(place(2, 6)),
         "before the other"
     );
     let field = adopting(alloc, Some(1), None, &[(place(2, 3), 0, 1)])?;
-    assert!(rt; on_immutable(alloc, &field) == Some(place(2, 3)), "field");
+    assert!(rt; immutable_adopter(&field) == Some(place(2, 3)), "field");
     let giving = adopting(
         alloc,
         None,
         None,
         &[(place(8, 9), 0, 1), (place(7, 50), 0, 1)],
     )?;
-    assert!(rt;
-        on_immutable(alloc, &giving) == Some(place(7, 50)),
-        "giving"
-    );
+    assert!(rt; immutable_adopter(&giving) == Some(place(7, 50)), "giving");
     Ok(())
 }
 
@@ -288,7 +267,7 @@ fn the_first_adopts_of_what_is_immutable_is_refused(rt: HostRuntime) -> Result<(
 
 // whether the look-ups tell what `adopting` declares
 fn tells(decls: &Decls) -> bool {
-    if decls.varieties() != 2 || decls.cons() != 2 || decls.sigs() != 1 {
+    if decls.varieties() != 2 || decls.cons() != 2 || decls.sigs() != 1 || decls.funs() != 0 {
         return false;
     }
     decls.variety(1).mutable
@@ -303,12 +282,9 @@ fn tells(decls: &Decls) -> bool {
 fn look_ups_see_the_program(rt: HostRuntime) -> Result<(), Fail> {
     let alloc = rt.alloc();
     let program = adopting(alloc, None, Some(1), &[(place(5, 5), 1, 1)])?;
-    assert!(rt; is_numbered(&program));
-    if is_numbered(&program) {
-        match well_formed(alloc, &program) {
-            Ok(decls) => assert!(rt; tells(&decls), "look-ups"),
-            Err(_) => assert!(rt; false, "well formed"),
-        }
+    match declarations(alloc, &program)? {
+        Some(decls) => assert!(rt; tells(&decls), "look-ups"),
+        None => assert!(rt; false, "declarations"),
     }
     Ok(())
 }

@@ -1,4 +1,5 @@
 pub mod Lists
+pub mod Firsts
 pub mod Orders
 pub mod Taking
 pub mod Locks

@@ -2,6 +2,5 @@ pub mod Lists
 pub mod Occurrence
 pub mod Joining
 pub mod Labels
-pub mod Renaming
 pub mod Coding
 pub mod Using

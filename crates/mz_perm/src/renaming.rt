@@ -2,7 +2,7 @@
 ghost use Rattle.std.specs.Prelude.{◌≡◌, IfOk, map};
 ghost use Rattle.mz_tree.specs.Plain.{map_ty, map_atom};
 ghost use Rattle.mz_tree.specs.View.{plain_ty, plain_atom, plain_atoms};
-ghost use Rattle.mz_perm.specs.Renaming.{name_at};
+ghost use Rattle.mz_tree.specs.Renaming.{name_at};
 
 use mz_tree::{Atom, Atoms, Memory, Names, Ty};
 use sqlite_items::Items;

@@ -14,7 +14,8 @@ use Rattle.mz_modes.specs.Affine.{ExclusiveTy}
 use Rattle.mz_perm.specs.Lists.{In}
 use Rattle.mz_perm.proofs.Taking.{is_in}
 use Rattle.mz_perm.proofs.Remaining.{drop_at, drop_all}
-use Rattle.mz_view.specs.Contents.{content, contents, names_from, IsFresh, AreFresh, equations}
+use Rattle.mz_decl.specs.Contents.{content, contents}
+use Rattle.mz_view.specs.Equations.{equations}
 use Rattle.mz_view.specs.Rules.{HoldsExclusive}
 use Rattle.mz_view.specs.Answers.{IsExclusive}
 
@@ -29,21 +30,6 @@ content_at ys fields i f part h p = get_map (content ys) (map plain_field fields
 -- and past the last field there is none
 pub contents_past : (ys : List ℕ) (fields : List CodeField) (i : ℕ) → length fields ≤ i → length (contents ys (map plain_field fields)) ≤ i
 contents_past ys fields i h = let long = length-map (map plain_field fields) (content ys) in let code = length-map fields plain_field in omega (arith, long, code, h)
-
--- one name more
-names_suc : (n i : ℕ) → names_from n (suc i) ≡ names_from n i ++ (n + i) ∷ []
-names_suc n zero = let e : n ≡ n + 0 = omega arith in ap (λ m. m ∷ []) e
-names_suc n (suc i) = let e : suc n + i ≡ n + suc i = omega arith in ap (λ l. n ∷ l) (names_suc (suc n) i ∙ ap (λ m. names_from (suc n) i ++ m ∷ []) e)
-
-pub names_next : (n i : ℕ) → names_from n (i + 1) ≡ names_from n i ++ (n + i) ∷ []
-names_next n i = let e : i + 1 ≡ suc i = omega arith in ap (names_from n) e ∙ names_suc n i
-
--- one fresh name more
-pub fresh_next : (R : List (Atom ℕ)) (n i : ℕ) → AreFresh R n i → IsFresh R (n + i) → AreFresh R n (i + 1)
-fresh_next R n i all one = λ m h. elim (cases_eq m i) [
-  | inl e ↦ subst (λ k. IsFresh R (n + k)) (sym e) one
-  | inr e ↦ all m (omega arith)
-]
 
 -- names and no names have no equations
 pub no_equations : (ys : List ℕ) → equations ys [] ≡ []

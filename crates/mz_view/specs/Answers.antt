@@ -1,47 +1,27 @@
 -- What the answers say.
-use Rattle.std.specs.Prelude.{◌≡◌, ℕ, ◌+◌, Bool, true, false, List, length, Option, Some, None, slice_get, Result, Ok, Err}
+use Rattle.std.specs.Prelude.{◌≡◌, ℕ, ◌+◌, List, length, Some, slice_get, Result, Ok, Err}
 use Rattle.mz_tree.specs.Plain.{Atom, Has_atom, Same_atom}
-use Rattle.mz_tree.specs.View.{plain_con}
-use Rattle.mz_tree.specs.declared.program.Con.{Con as CodeCon}
 use Rattle.mz_decl.specs.Declarations.{Decls}
 use Rattle.mz_modes.specs.Affine.{ExclusiveTy}
-use Rattle.mz_perm.specs.Lists.{In}
-use Rattle.mz_perm.specs.Using.{UsesUp, UsesUpAll}
+use Rattle.mz_modes.specs.Answers.{LeadsNowhere}
+use Rattle.mz_perm.specs.Lists.{In, Which, First_copy}
 use Rattle.mz_view.specs.declared.spots.Spot.{Spot}
 use Rattle.mz_view.specs.declared.spots.Spot.TheVariants.{At, Past}
 use Rattle.mz_view.specs.declared.step.ViewFault.{ViewFault}
 use Rattle.mz_view.specs.declared.step.ViewFault.TheVariants.{NotAnInstance, Memory}
 
--- the relation leads from nowhere to nowhere: there is no state after it
-abbrev pub LeadsNowhere : (List (Atom ℕ) → Type 0) → Type 0
-LeadsNowhere After = (T : List (Atom ℕ)) → After T → ⊥
-
--- a state that was R is T now: one after, or, where there is none or memory is wanting, what it was
-abbrev pub Becomes : {A : Type 0} → (List (Atom ℕ) → Type 0) → List (Atom ℕ) → List (Atom ℕ) → Result A ViewFault → Type 0
-Becomes After R T (Ok done) = After T
+-- a state that was R is T now: the one to which the step leads where the first of equal copies goes; or the step leads
+-- nowhere, whichever goes, and the state is as before; or memory is wanting, and it is as before
+abbrev pub Becomes : {A : Type 0} → (Which → List (Atom ℕ) → Type 0) → List (Atom ℕ) → List (Atom ℕ) → Result A ViewFault → Type 0
+Becomes After R T (Ok done) = After First_copy T
 Becomes After R T (Err NotAnInstance) = LeadsNowhere After × (T ≡ R)
 Becomes After R T (Err Memory) = T ≡ R
 
 -- a state after, or why there is none
-abbrev pub Gives : (List (Atom ℕ) → Type 0) → Result (List (Atom ℕ)) ViewFault → Type 0
-Gives After (Ok T) = After T
+abbrev pub Gives : (Which → List (Atom ℕ) → Type 0) → Result (List (Atom ℕ)) ViewFault → Type 0
+Gives After (Ok T) = After First_copy T
 Gives After (Err NotAnInstance) = LeadsNowhere After
 Gives After (Err Memory) = Unit {0}
-
--- the permission was used up; else it can't be, and the state is as it was
-abbrev pub Used : {A : Type 0} → Bool → (A → Type 0) → A → List A → List A → Type 0
-Used true Goes a xs ys = UsesUp Goes a xs ys
-Used false Goes a xs ys = ((zs : List _) → UsesUp Goes a xs zs → ⊥) × (ys ≡ xs)
-
--- all of them were, one after the other; else they can't be
-abbrev pub UsedAll : {A : Type 0} → Bool → (A → Type 0) → List A → List A → List A → Type 0
-UsedAll true Goes p xs ys = UsesUpAll Goes p xs ys
-UsedAll false Goes p xs ys = (zs : List _) → UsesUpAll Goes p xs zs → ⊥
-
--- the constructor of a number, if there is one
-abbrev pub IsCon : Decls → ℕ → Option CodeCon → Type 0
-IsCon D k None = slice_get D.cons k ≡ None
-IsCon D k (Some con) = slice_get D.cons k ≡ Some (plain_con con)
 
 -- the permission says that x has an exclusive type
 abbrev pub IsExclusive : Decls → ℕ → Atom ℕ → Type 0

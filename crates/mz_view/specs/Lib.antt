@@ -1,5 +1,5 @@
 pub mod Steps
-pub mod Contents
+pub mod Equations
 pub mod Spots
 pub mod Rules
 pub mod Answers

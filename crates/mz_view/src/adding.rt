@@ -1,7 +1,7 @@
 //! The rules that only add a permission: copy, equal, dynamic and unknown.
 ghost use Rattle.mz_tree.specs.View.{plain_atom, plain_atoms};
 ghost use Rattle.mz_decl.specs.View.{plain_decls};
-ghost use Rattle.mz_modes.specs.Affine.{Says};
+ghost use Rattle.mz_tree.specs.Saying.{Says};
 ghost use Rattle.mz_modes.specs.Modes.{AreModes};
 ghost use Rattle.mz_view.specs.Rules.{Copies, Equates, Dynamics, HoldsExclusive};
 ghost use Rattle.mz_view.specs.Answers.{Becomes, IsExclusive};
@@ -22,7 +22,7 @@ pub(crate) fn copy(
     atom: &Atom,
 ) -> Result<(), ViewFault>
     requires { AreModes (plain_decls decls.now) modes.now }
-    ensures { Becomes (Copies (plain_decls decls.now) state.old (plain_atom atom.now)) state.old state.new result }
+    ensures { Becomes (λ which. Copies (plain_decls decls.now) state.old (plain_atom atom.now)) state.old state.new result }
 {
     if !modes.duplicable(atom) {
         return Err(ViewFault::NotAnInstance);
@@ -36,7 +36,7 @@ pub(crate) fn copy(
 
 // turns an equation round
 pub(crate) fn equate(state: &mut State, left: u32, right: u32) -> Result<(), ViewFault>
-    ensures { Becomes (Equates state.old left right) state.old state.new result }
+    ensures { Becomes (λ which. Equates state.old left right) state.old state.new result }
 {
     if left != right && !state.has(&Atom::Same { left, right }) {
         return Err(ViewFault::NotAnInstance);
@@ -56,7 +56,7 @@ pub(crate) fn make_dynamic(
     name: u32,
 ) -> Result<(), ViewFault>
     requires { AreModes (plain_decls decls.now) modes.now }
-    ensures { Becomes (Dynamics (plain_decls decls.now) state.old name) state.old state.new result }
+    ensures { Becomes (λ which. Dynamics (plain_decls decls.now) state.old name) state.old state.new result }
 {
     if !holds_exclusive(decls, modes, state.atoms(), name) {
         return Err(ViewFault::NotAnInstance);

@@ -3,7 +3,7 @@ ghost use Rattle.std.specs.Prelude.{◌≡◌, IfOk, slice_set};
 ghost use Rattle.mz_tree.specs.Plain.{Has_atom, Block_type};
 ghost use Rattle.mz_tree.specs.View.{plain_atom};
 ghost use Rattle.mz_decl.specs.View.{plain_decls};
-ghost use Rattle.mz_modes.specs.Affine.{IsMutable, Says};
+ghost use Rattle.mz_tree.specs.Saying.{Says};
 ghost use Rattle.mz_modes.specs.Modes.{AreModes};
 ghost use Rattle.mz_view.specs.Rules.{OnBlock, Exchanges, Renames, SetsClause, SetsField, subject_of, with_subject};
 ghost use Rattle.mz_view.specs.Answers.{Becomes, HasEqual};
@@ -24,7 +24,7 @@ fn exchange(
     new: Atom,
 ) -> Result<(), ViewFault>
     requires { AreModes (plain_decls decls.now) modes.now }
-    ensures { Becomes (Exchanges (plain_decls decls.now) state.old (plain_atom atom.now) (plain_atom new)) state.old state.new result }
+    ensures { Becomes (λ which. Exchanges which (plain_decls decls.now) state.old (plain_atom atom.now) (plain_atom new)) state.old state.new result }
 {
     if !state.has(atom) {
         return Err(ViewFault::NotAnInstance);
@@ -47,7 +47,7 @@ pub(crate) fn rename(
     to: u32,
 ) -> Result<(), ViewFault>
     requires { AreModes (plain_decls decls.now) modes.now }
-    ensures { Becomes (Renames (plain_decls decls.now) state.old (plain_atom atom.now) to) state.old state.new result }
+    ensures { Becomes (λ which. Renames which (plain_decls decls.now) state.old (plain_atom atom.now) to) state.old state.new result }
 {
     let equal = Atom::Same {
         left: subject(atom),
@@ -96,7 +96,7 @@ pub(crate) fn set_clause(
     adopts: u32,
 ) -> Result<(), ViewFault>
     requires { AreModes (plain_decls decls.now) modes.now }
-    ensures { Becomes (λ T. OnBlock (plain_atom atom.now) (λ x con ys clause. SetsClause (plain_decls decls.now) state.old adopts x con ys clause T)) state.old state.new result }
+    ensures { Becomes (λ which T. OnBlock (plain_atom atom.now) (λ x con ys clause. SetsClause which (plain_decls decls.now) state.old adopts x con ys clause T)) state.old state.new result }
 {
     match atom {
         Atom::Same { .. } => Err(ViewFault::NotAnInstance),
@@ -109,10 +109,10 @@ pub(crate) fn set_clause(
                 if clause.is_some() {
                     return Err(ViewFault::NotAnInstance);
                 }
-                if !modes.exclusive(ty) {
+                if !modes.is_mutable_con(*con) {
                     return Err(ViewFault::NotAnInstance);
                 }
-                if !is_mutable(decls, modes, adopts) {
+                if !modes.is_mutable(adopts) {
                     return Err(ViewFault::NotAnInstance);
                 }
                 let new = block(*name, *con, fields.copy(alloc)?, Some(adopts));
@@ -121,14 +121,6 @@ pub(crate) fn set_clause(
             _ => Err(ViewFault::NotAnInstance),
         },
     }
-}
-
-// whether the data type of this number is mutable
-fn is_mutable(decls: &Decls, modes: &Modes, variety: u32) -> bool
-    requires { AreModes (plain_decls decls.now) modes.now }
-    ensures { Says result (IsMutable (plain_decls decls.now) variety) }
-{
-    modes.exclusive(&Ty::Named(variety))
 }
 
 // a structural permission
@@ -156,7 +148,7 @@ pub(crate) fn set_field(
     to: u32,
 ) -> Result<(), ViewFault>
     requires { AreModes (plain_decls decls.now) modes.now }
-    ensures { Becomes (λ T. OnBlock (plain_atom atom.now) (λ x con ys clause. SetsField (plain_decls decls.now) state.old field to x con ys clause T)) state.old state.new result }
+    ensures { Becomes (λ which T. OnBlock (plain_atom atom.now) (λ x con ys clause. SetsField which (plain_decls decls.now) state.old field to x con ys clause T)) state.old state.new result }
 {
     match atom {
         Atom::Same { .. } => Err(ViewFault::NotAnInstance),

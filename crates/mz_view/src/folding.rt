@@ -8,10 +8,9 @@ ghost use Rattle.mz_view.specs.Rules.{OnBlock, Folds};
 ghost use Rattle.mz_view.specs.Answers.{Becomes, Gives};
 
 use crate::ViewFault;
-use crate::declared::{clause_at, con_at};
-use crate::using::{use_contents, use_up};
+use crate::using::use_contents;
 use mz_decl::Decls;
-use mz_modes::Modes;
+use mz_modes::{Modes, use_up};
 use mz_perm::State;
 use mz_tree::{Atom, Names, Ty};
 use std::alloc::Global;
@@ -25,7 +24,7 @@ pub(crate) fn fold(
     atom: &Atom,
 ) -> Result<(), ViewFault>
     requires { AreModes (plain_decls decls.now) modes.now }
-    ensures { Becomes (λ T. OnBlock (plain_atom atom.now) (λ x con ys clause. Folds (plain_decls decls.now) state.old x con ys clause T)) state.old state.new result }
+    ensures { Becomes (λ which T. OnBlock (plain_atom atom.now) (λ x con ys clause. Folds which (plain_decls decls.now) state.old x con ys clause T)) state.old state.new result }
 {
     match atom {
         Atom::Same { .. } => Err(ViewFault::NotAnInstance),
@@ -59,9 +58,9 @@ fn folded(
 ) -> Result<State, ViewFault>
     requires modes { AreModes (plain_decls decls.now) modes.now }
     requires parts { plain_atom atom.now ≡ Has_atom name (Block_type con fields.now adopts) }
-    ensures { Gives (Folds (plain_decls decls.now) state.now name con fields.now adopts) result }
+    ensures { Gives (λ which. Folds which (plain_decls decls.now) state.now name con fields.now adopts) result }
 {
-    let made = match con_at(decls, con) {
+    let made = match decls.con_at(con) {
         Some(made) => made,
         None => return Err(ViewFault::NotAnInstance),
     };
@@ -69,7 +68,7 @@ fn folded(
     if fields.len() != contents.len() {
         return Err(ViewFault::NotAnInstance);
     }
-    if !may_fold(adopts, clause_at(decls, made.variety)) {
+    if !may_fold(adopts, decls.clause_at(made.variety)) {
         return Err(ViewFault::NotAnInstance);
     }
     let mut next = state.copy(alloc)?;

@@ -3,7 +3,7 @@ ghost use Rattle.std.specs.Prelude.{◌≡◌, ◌++◌, IfOk};
 ghost use Rattle.mz_tree.specs.Plain.{Has_atom, Block_type};
 ghost use Rattle.mz_tree.specs.View.{plain_atom};
 ghost use Rattle.mz_decl.specs.View.{plain_decls};
-ghost use Rattle.mz_view.specs.Contents.{equations};
+ghost use Rattle.mz_view.specs.Equations.{equations};
 ghost use Rattle.mz_view.specs.Rules.{OnBlock, Meets};
 ghost use Rattle.mz_view.specs.Answers.{Becomes, Gives};
 
@@ -22,7 +22,7 @@ pub(crate) fn meet(
     left: &Atom,
     right: &Atom,
 ) -> Result<(), ViewFault>
-    ensures { Becomes (λ T. OnBlock (plain_atom left.now) (λ x con ys clause. OnBlock (plain_atom right.now) (λ y other zs another. Meets (plain_decls decls.now) state.old x con ys clause y other zs another T))) state.old state.new result }
+    ensures { Becomes (λ which T. OnBlock (plain_atom left.now) (λ x con ys clause. OnBlock (plain_atom right.now) (λ y other zs another. Meets (plain_decls decls.now) state.old x con ys clause y other zs another T))) state.old state.new result }
 {
     match left {
         Atom::Same { .. } => Err(ViewFault::NotAnInstance),
@@ -60,7 +60,7 @@ fn meet_block(
     right: &Atom,
 ) -> Result<(), ViewFault>
     requires { plain_atom left.now ≡ Has_atom name (Block_type con fields.now adopts) }
-    ensures { Becomes (λ T. OnBlock (plain_atom right.now) (λ y other zs another. Meets (plain_decls decls.now) state.old name con fields.now adopts y other zs another T)) state.old state.new result }
+    ensures { Becomes (λ which T. OnBlock (plain_atom right.now) (λ y other zs another. Meets (plain_decls decls.now) state.old name con fields.now adopts y other zs another T)) state.old state.new result }
 {
     match right {
         Atom::Same { .. } => Err(ViewFault::NotAnInstance),

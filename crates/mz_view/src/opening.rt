@@ -1,47 +1,14 @@
-//! Opening a data type: the rule unfold.
-ghost use Rattle.std.specs.Prelude.{◌≡◌, ◌+◌, ◌++◌, ◌≤◌, ◌^◌, IsTrue, IfOk, map};
-ghost use Rattle.mz_tree.specs.View.{plain_field};
+//! The rule unfold.
 ghost use Rattle.mz_decl.specs.View.{plain_decls};
-ghost use Rattle.mz_modes.specs.Affine.{Says};
 ghost use Rattle.mz_modes.specs.Modes.{AreModes};
-ghost use Rattle.mz_view.specs.Contents.{contents, names_from, AreFresh};
-ghost use Rattle.mz_view.specs.Rules.{Opens, Unfolds};
-ghost use Rattle.mz_view.specs.Answers.{Becomes, Gives};
+ghost use Rattle.mz_view.specs.Rules.{Unfolds};
+ghost use Rattle.mz_view.specs.Answers.{Becomes};
 
 use crate::ViewFault;
-use crate::declared::{clause_at, con_at, only_at};
-use crate::using::use_up;
 use mz_decl::Decls;
-use mz_modes::Modes;
-use mz_perm::{State, substitute};
-use mz_tree::{Alike, Atom, Field, Memory, Names, Ty};
-use sqlite_items::Items;
+use mz_modes::{Modes, RuleFault, open_at};
+use mz_perm::State;
 use std::alloc::Global;
-
-// the first name that a view step makes, and how many numbers of 32 bits there are
-const FIRST: u32 = 256;
-
-const NUMBERS: usize = 4_294_967_296;
-
-/// Opens `name` at this data type as a block of constructor `con`, with the names from `fresh` on for its fields: what an
-/// unfolding does for the only constructor of a data type, and a branch for its own. Where there is no instance, or
-/// memory is wanting, the state stays as it is.
-pub fn open_at(
-    alloc: Global,
-    decls: &Decls,
-    modes: &Modes,
-    state: &mut State,
-    name: u32,
-    variety: u32,
-    con: u32,
-    fresh: u32,
-) -> Result<(), ViewFault>
-    requires { AreModes (plain_decls decls.now) modes.now }
-    ensures { Becomes (Opens (plain_decls decls.now) state.old name variety con fresh) state.old state.new result }
-{
-    *state = opened(alloc, decls, modes, state, name, variety, con, fresh)?;
-    Ok(())
-}
 
 // opens the name at the only constructor of the data type
 pub(crate) fn unfold(
@@ -54,107 +21,14 @@ pub(crate) fn unfold(
     fresh: u32,
 ) -> Result<(), ViewFault>
     requires { AreModes (plain_decls decls.now) modes.now }
-    ensures { Becomes (Unfolds (plain_decls decls.now) state.old name variety fresh) state.old state.new result }
+    ensures { Becomes (λ which. Unfolds which (plain_decls decls.now) state.old name variety fresh) state.old state.new result }
 {
-    match only_at(decls, variety) {
+    match decls.only_at(variety) {
         None => Err(ViewFault::NotAnInstance),
-        Some(con) => open_at(alloc, decls, modes, state, name, variety, con, fresh),
+        Some(con) => match open_at(alloc, decls, modes, state, name, variety, con, fresh) {
+            Ok(()) => Ok(()),
+            Err(RuleFault::NoInstance) => Err(ViewFault::NotAnInstance),
+            Err(RuleFault::Memory) => Err(ViewFault::Memory),
+        },
     }
-}
-
-// the state in which the name is opened
-fn opened(
-    alloc: Global,
-    decls: &Decls,
-    modes: &Modes,
-    state: &State,
-    name: u32,
-    variety: u32,
-    con: u32,
-    fresh: u32,
-) -> Result<State, ViewFault>
-    requires { AreModes (plain_decls decls.now) modes.now }
-    ensures { Gives (Opens (plain_decls decls.now) state.now name variety con fresh) result }
-{
-    let made = match con_at(decls, con) {
-        Some(made) => made,
-        None => return Err(ViewFault::NotAnInstance),
-    };
-    let fields = made.fields.as_slice();
-    let count = fields.len();
-    if !are_fresh(state, fresh, count) {
-        return Err(ViewFault::NotAnInstance);
-    }
-    let names = names_from(alloc, fresh, count)?;
-    let block = Ty::Block {
-        con,
-        fields: names.copy(alloc)?,
-        adopts: clause_at(decls, variety),
-    };
-    let whole = Atom::Has {
-        name,
-        ty: Ty::Named(variety),
-    };
-    let mut next = state.copy(alloc)?;
-    if !use_up(modes, &mut next, &whole) {
-        return Err(ViewFault::NotAnInstance);
-    }
-    next.add(Atom::Has { name, ty: block })?;
-    add_contents(alloc, &mut next, fields, &names)?;
-    Ok(next)
-}
-
-// whether these names are fresh
-fn are_fresh(state: &State, from: u32, count: usize) -> bool
-    ensures fresh { Says result (AreFresh state.now from count) }
-    ensures within { IsTrue result → from + count ≤ 2 ^ 32 }
-{
-    if count == 0 {
-        return true;
-    }
-    if from < FIRST || NUMBERS - (from as usize) < count {
-        return false;
-    }
-    are_unused(state, from, count)
-}
-
-// whether these names, which are no core names, stand nowhere in the state
-fn are_unused(state: &State, from: u32, count: usize) -> bool
-    requires no_core { 256 ≤ from }
-    requires within { from + count ≤ 2 ^ 32 }
-    ensures { Says result (AreFresh state.now from count) }
-{
-    for i in 0..count {
-        if state.occurs(from + i as u32) {
-            return false;
-        }
-    }
-    true
-}
-
-// so many names from this on
-fn names_from(alloc: Global, from: u32, count: usize) -> Result<Names, Memory>
-    requires { from + count ≤ 2 ^ 32 }
-    ensures { IfOk result (λ it. it ≡ names_from from count) }
-{
-    let mut names = Items::new(alloc);
-    for i in 0..count {
-        names.push(from + i as u32)?;
-    }
-    Ok(names)
-}
-
-// adds the content of each field, with these names for the fields; where memory is wanting some are added
-fn add_contents(
-    alloc: Global,
-    state: &mut State,
-    fields: &[Field],
-    names: &Names,
-) -> Result<(), Memory>
-    ensures { IfOk result (λ _. state.new ≡ state.old ++ contents names.now (map plain_field fields.now)) }
-{
-    for i in 0..fields.len() {
-        state.add(substitute(alloc, &fields[i].content, names)?)?;
-    }
-    Ok(())
 }

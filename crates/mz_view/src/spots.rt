@@ -27,7 +27,7 @@ pub(crate) fn set_spot(
     spot: u32,
     to: u32,
 ) -> Result<(), ViewFault>
-    ensures { Becomes (λ T. OnLock (plain_atom atom.now) (λ l p. SetsSpot state.old spot to l p T)) state.old state.new result }
+    ensures { Becomes (λ which T. OnLock (plain_atom atom.now) (λ l p. SetsSpot state.old spot to l p T)) state.old state.new result }
 {
     match atom {
         Atom::Same { .. } => Err(ViewFault::NotAnInstance),
@@ -49,7 +49,7 @@ fn set_lock(
     to: u32,
 ) -> Result<(), ViewFault>
     requires { plain_atom atom.now ≡ Has_atom name (Lock_type (atoms_of (plain_atoms guarded.now))) }
-    ensures { Becomes (SetsSpot state.old spot to name (atoms_of (plain_atoms guarded.now))) state.old state.new result }
+    ensures { Becomes (λ which. SetsSpot state.old spot to name (atoms_of (plain_atoms guarded.now))) state.old state.new result }
 {
     if !state.has(atom) {
         return Err(ViewFault::NotAnInstance);

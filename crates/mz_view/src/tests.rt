@@ -1,7 +1,7 @@
 //! A state after each view step, and the steps that have no instance.
 
 use crate::*;
-use mz_decl::{is_numbered, well_formed};
+use mz_decl::declarations;
 use mz_modes::modes;
 use mz_perm::State;
 use mz_tree::*;
@@ -251,15 +251,12 @@ fn answer(
     state: &mut State,
     step: &ViewStep,
 ) -> Option<Result<(), ViewFault>> {
-    if !is_numbered(program) {
-        return None;
-    }
-    match well_formed(alloc, program) {
-        Ok(decls) => match modes(alloc, &decls) {
+    match declarations(alloc, program) {
+        Ok(Some(decls)) => match modes(alloc, &decls) {
             Ok(modes) => Some(apply(alloc, &decls, &modes, state, step)),
             Err(_) => None,
         },
-        Err(_) => None,
+        _ => None,
     }
 }
 

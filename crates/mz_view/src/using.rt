@@ -1,29 +1,17 @@
-//! Using permissions up.
+//! Using up the contents of fields.
 ghost use Rattle.std.specs.Prelude.{IfOk, map};
-ghost use Rattle.mz_tree.specs.View.{plain_atom, plain_field};
-ghost use Rattle.mz_decl.specs.Declarations.{Decls as PlainDecls};
+ghost use Rattle.mz_tree.specs.View.{plain_field};
+ghost use Rattle.mz_decl.specs.Contents.{contents};
 ghost use Rattle.mz_decl.specs.View.{plain_decls};
 ghost use Rattle.mz_modes.specs.Affine.{AffineAtom};
 ghost use Rattle.mz_modes.specs.Modes.{AreModes};
-ghost use Rattle.mz_view.specs.Contents.{contents};
-ghost use Rattle.mz_view.specs.Answers.{Used, UsedAll};
+ghost use Rattle.mz_modes.specs.Answers.{UsedAll};
 
 use mz_decl::Decls;
-use mz_modes::Modes;
+use mz_modes::{Modes, use_up};
 use mz_perm::{State, substitute};
-use mz_tree::{Atom, Field, Memory, Names};
+use mz_tree::{Field, Memory, Names};
 use std::alloc::Global;
-
-/// Uses the permission up: one copy, the first, is taken out where it is affine, and where it is duplicable it only has
-/// to be held. Where it isn't held the answer is no, and the state stays as it is. It takes no memory.
-pub fn use_up(modes: &Modes, state: &mut State, atom: &Atom) -> bool
-    ensures { (D : PlainDecls) → AreModes D modes.now → Used result (AffineAtom D) (plain_atom atom.now) state.old state.new }
-{
-    if modes.duplicable(atom) {
-        return state.has(atom);
-    }
-    state.remove(atom)
-}
 
 // uses up the content of each field in order, with these names for the fields; where one is missing the state is left
 // as it then is

@@ -2,7 +2,7 @@
 ghost use Rattle.mz_decl.specs.View.{plain_decls};
 ghost use Rattle.mz_modes.specs.Modes.{AreModes};
 ghost use Rattle.mz_view.specs.Steps.{plain_step};
-ghost use Rattle.mz_view.specs.Rules.{View};
+ghost use Rattle.mz_view.specs.Rules.{ViewBy};
 ghost use Rattle.mz_view.specs.Answers.{Becomes};
 
 use crate::adding::{copy, equate, make_dynamic};
@@ -19,7 +19,8 @@ use mz_tree::{Atom, Ty};
 use std::alloc::Global;
 
 /// Makes the view step, where its rule has an instance in the state: the state is then the rule's, with what is new at
-/// its end. Else, or where memory is wanting, the state stays as it is.
+/// its end, and where one of several equal permissions goes it is the first. Else, or where memory is wanting, the state
+/// stays as it is.
 pub fn apply(
     alloc: Global,
     decls: &Decls,
@@ -28,7 +29,7 @@ pub fn apply(
     step: &ViewStep,
 ) -> Result<(), ViewFault>
     requires { AreModes (plain_decls decls.now) modes.now }
-    ensures { Becomes (View (plain_decls decls.now) state.old (plain_step step.now)) state.old state.new result }
+    ensures { Becomes (λ which. ViewBy which (plain_decls decls.now) state.old (plain_step step.now)) state.old state.new result }
 {
     match step {
         ViewStep::Drop { atom } => {

@@ -1,5 +1,6 @@
-use Rattle.mz_decl.proofs.Made.{made}
+use Rattle.mz_tree.specs.View.{plain_program}
+use Rattle.mz_decl.proofs.Limits.{numbered_of}
 use Rattle.mz_decl.proofs.form.well_formed.Goals as goal
 
-pub returns : goal.returns
-returns c = (made c.args.program.now c.in_ok-varieties.varieties c.in_ok-cons.cons c.in_ok-sigs.sigs c.in_ok-fun_sigs.fun_sigs c.in_ok-written.written c.in_ok-varieties.ensures c.in_ok-cons.ensures c.in_ok-sigs.ensures c.in_ok-fun_sigs.ensures c.in_ok-written.ensures, c.in_default.ensures)
+pub copied-requires : goal.copied-requires
+copied-requires c = numbered_of (plain_program c.args.program.now) c.requires.scoped

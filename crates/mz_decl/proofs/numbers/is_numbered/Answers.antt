@@ -10,4 +10,4 @@ pub loop-i-preserved : goal.loop-i-preserved
 loop-i-preserved c = below_next c.len-count.result c.as_slice-all.result.now c.loop-i.i c.index-all-i.result (omega arith) c.index-all-i.is (omega (arith, c.if-all-i.false, ap (λ (x : CodeCon). x.variety) c.index-all-i.is)) c.loop-i.invariant
 
 pub returns : goal.returns
-returns c = (λ _. numbered_all c.args.program.now c.len-count.result c.as_slice-all.result.now c.loop-i.i c.as_slice-all.ensures c.len-count.ensures (omega arith) (omega arith) (omega arith) (omega arith) c.loop-i.invariant, λ _. refl)
+returns c = (λ _. numbered_all c.args.program.now c.len-count.result c.as_slice-all.result.now c.loop-i.i c.as_slice-all.ensures c.len-count.ensures (omega arith) (omega arith) (omega arith) (omega arith) (omega arith) c.loop-i.invariant, λ _. refl)

@@ -1,7 +1,7 @@
 use Rattle.std.proofs.Common.{sym, ap, ◌∙◌}
 use Rattle.mz_tree.specs.Plain.{map_ty}
 use Rattle.mz_tree.specs.View.{plain_ty}
-use Rattle.mz_perm.specs.Renaming.{name_at}
+use Rattle.mz_tree.specs.Renaming.{name_at}
 use Rattle.mz_perm.proofs.Locks.{map_lock}
 use Rattle.mz_perm.proofs.renaming.+substitution.Goals as goal
 

@@ -3,8 +3,8 @@ use Rattle.std.proofs.lemmas.List.{length-map}
 use Rattle.mz_tree.specs.View.{plain_atom, plain_con, plain_field}
 use Rattle.mz_decl.specs.View.{plain_decls}
 use Rattle.mz_modes.specs.Affine.{AffineAtom}
-use Rattle.mz_view.specs.Contents.{contents}
-use Rattle.mz_view.specs.Answers.{UsedAll}
+use Rattle.mz_decl.specs.Contents.{contents}
+use Rattle.mz_modes.specs.Answers.{UsedAll}
 use Rattle.mz_view.proofs.Parts.{not_block, not_contents, folds}
 use Rattle.mz_view.proofs.folding.folded.Goals as goal
 

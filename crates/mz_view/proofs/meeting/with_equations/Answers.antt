@@ -1,6 +1,6 @@
 use Rattle.std.proofs.Common.{◌++◌, drop, ap, ◌∙◌}
 use Rattle.std.proofs.lemmas.Option.{slice_get-get_or}
-use Rattle.mz_view.specs.Contents.{equations}
+use Rattle.mz_view.specs.Equations.{equations}
 use Rattle.mz_view.proofs.Listed.{equations_next, equations_past}
 use Rattle.mz_view.proofs.meeting.with_equations.Goals as goal
 use Rattle.mz_view.proofs.meeting.with_equations.Goals.{then-i-right+in_ok-add, else-i-right}

@@ -1,5 +1,5 @@
 use Rattle.std.proofs.Common.{◌≡◌, ◌++◌, drop}
-use Rattle.mz_view.specs.Contents.{equations}
+use Rattle.mz_view.specs.Equations.{equations}
 use Rattle.mz_view.proofs.meeting.with_equations.Given as goal
 
 abbrev pub invariant-loop-i : goal.invariant-loop-i

@@ -3,7 +3,7 @@ use Rattle.mz_tree.specs.View.{plain_atom, plain_field}
 use Rattle.mz_decl.specs.View.{plain_decls}
 use Rattle.mz_modes.specs.Affine.{AffineAtom}
 use Rattle.mz_perm.proofs.Remaining.{remains_all, remains_next, remains_refused, remains_done}
-use Rattle.mz_view.specs.Contents.{contents}
+use Rattle.mz_decl.specs.Contents.{contents}
 use Rattle.mz_view.proofs.Listed.{content_at, contents_past}
 use Rattle.mz_view.proofs.using.use_contents.Goals as goal
 

@@ -3,7 +3,7 @@ use Rattle.mz_tree.specs.View.{plain_field}
 use Rattle.mz_decl.specs.View.{plain_decls}
 use Rattle.mz_modes.specs.Affine.{AffineAtom}
 use Rattle.mz_perm.proofs.Remaining.{Remains}
-use Rattle.mz_view.specs.Contents.{contents}
+use Rattle.mz_decl.specs.Contents.{contents}
 use Rattle.mz_view.proofs.using.use_contents.Given as goal
 
 abbrev pub invariant-loop-i : goal.invariant-loop-i

@@ -1,17 +1,17 @@
 use Rattle.std.proofs.Common.{sym, subst}
 use Rattle.mz_tree.specs.View.{plain_atom}
 use Rattle.mz_decl.specs.View.{plain_decls}
-use Rattle.mz_perm.proofs.Lists.{takes_any}
+use Rattle.mz_perm.specs.Lists.{First_copy}
 use Rattle.mz_perm.proofs.Orders.{in_of}
 use Rattle.mz_view.specs.Steps.{plain_step}
-use Rattle.mz_view.specs.Rules.{View}
+use Rattle.mz_view.specs.Rules.{View, ViewBy}
 use Rattle.mz_view.specs.declared.step.ViewStep.{ViewStep}
 use Rattle.mz_view.specs.declared.step.ViewStep.TheVariants.{Fold, Rename, Clause, Meet, InField, InLock}
 use Rattle.mz_view.proofs.Changes.{at_step}
 use Rattle.mz_view.proofs.view.apply.Goals as goal
 
 pub returns-then-remove : goal.returns-then-remove
-returns-then-remove c = subst (λ (s : ViewStep). View (plain_decls c.args.decls.now) c.args.state.now (plain_step s) c.remove.new.self) (sym c.in-Drop.is) (takes_any (plain_atom c.in-Drop.atom) c.args.state.now c.remove.new.self c.if-remove.ensures)
+returns-then-remove c = subst (λ (s : ViewStep). ViewBy First_copy (plain_decls c.args.decls.now) c.args.state.now (plain_step s) c.remove.new.self) (sym c.in-Drop.is) c.if-remove.ensures
 
 pub returns-else-remove : goal.returns-else-remove
 returns-else-remove c = (

@@ -3,9 +3,9 @@ use Rattle.std.proofs.lemmas.List.{length-map}
 use Rattle.mz_tree.specs.Plain.{Block_type, Has_atom}
 use Rattle.mz_tree.specs.View.{plain_con, plain_field}
 use Rattle.mz_decl.specs.View.{plain_decls}
-use Rattle.mz_view.specs.Contents.{contents}
-use Rattle.mz_view.proofs.Parts.{not_opens, opens}
-use Rattle.mz_view.proofs.opening.opened.Goals as goal
+use Rattle.mz_decl.specs.Contents.{contents}
+use Rattle.mz_modes.proofs.Opened.{not_opens, opens}
+use Rattle.mz_modes.proofs.opening.opened.Goals as goal
 
 pub returns-then-not-use_up : goal.returns-then-not-use_up
 returns-then-not-use_up c = not_opens (plain_decls c.args.decls.now) c.args.state.now c.in_ok-next.next c.args.name c.args.variety c.args.con c.args.fresh c.in_ok-next.ensures (c.if-not-use_up.ensures (plain_decls c.args.decls.now) c.requires).0

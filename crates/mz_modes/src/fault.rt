@@ -1,0 +1,22 @@
+//! Why a rule isn't followed.
+use mz_tree::Memory;
+
+/// Why a rule doesn't change a state, which is as it was.
+#[derive(Clone, Copy, Debug, PartialEq, Eq)]
+pub enum RuleFault {
+    /// The rule has no instance in the state with what is named.
+    NoInstance,
+    /// Memory is wanting.
+    Memory,
+}
+
+impl From<Memory> for RuleFault {
+    ghost use Rattle.std.specs.Prelude.{◌≡◌};
+    ghost use Rattle.mz_modes.specs.declared.fault.RuleFault.TheVariants.{Memory as MemoryFault};
+
+    ghost from_gives = { λ _ fault. fault ≡ MemoryFault };
+
+    fn from(_: Memory) -> Self {
+        RuleFault::Memory
+    }
+}
