@@ -1,3 +1,9 @@
 pub mod Answering
 pub mod Blocks
+pub mod CaseCounts
+pub mod BodiesWalked
+pub mod Firsts
+pub mod Calls
 pub mod Orders
+pub mod BranchOrders
+pub mod Starts

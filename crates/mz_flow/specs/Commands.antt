@@ -1,22 +1,26 @@
--- What a command does to a state: one case for each kind of command, and for each case a record of its conditions.
--- Permissions that are added stand at the end, in the order in which they are named.
-use Rattle.std.specs.Prelude.{◌≡◌, ◌⊎◌, ◌<◌, ℕ, false, List, [], ◌∷◌, ◌++◌, length, Option, Some, None, slice_get, slice_set}
+-- What a plain command or a call does to a state: one case for each kind of command, and for each case a record of its
+-- conditions. Permissions that are added stand at the end, in the order in which they are named. Of equal copies of a
+-- permission any may go; the calls take the first.
+use Rattle.std.specs.Prelude.{◌≡◌, ◌⊎◌, ◌<◌, ℕ, List, [], ◌∷◌, ◌++◌, length, Option, Some, None, slice_get, slice_set}
 use Rattle.mz_tree.specs.Plain.{Atom, Int_type, Unknown_type, Function_type, Block_type, Has_atom, Same_atom}
-use Rattle.mz_tree.specs.Code.{Op, Command, Int_op, Unit_op, Fun_op, Copy_op, Arith_op, New_op, Read_op, Write_op, Retag_op, Print_op, to_of, op_of}
+use Rattle.mz_tree.specs.Code.{Op, Int_op, Unit_op, Fun_op, Copy_op, Arith_op, New_op, Read_op, Write_op, Retag_op, Call_op, Print_op}
 use Rattle.mz_tree.specs.Programs.{Con}
 use Rattle.mz_decl.specs.Declarations.{Decls}
 use Rattle.mz_modes.specs.Affine.{IsMutableCon}
-use Rattle.mz_perm.specs.Lists.{In, TakesOne}
-use Rattle.mz_perm.specs.Occurrence.{occurs}
+use Rattle.mz_decl.specs.Signatures.{needed, at_args, given}
+use Rattle.mz_modes.specs.Affine.{AffineAtom}
+use Rattle.mz_modes.specs.Calling.{IsCallee, GivesBack}
+use Rattle.mz_perm.specs.Lists.{In, Which, TakesBy}
+use Rattle.mz_perm.specs.Using.{UsesUpAllBy}
 
 -- the permission is added, and all that was held stays
 abbrev pub Adds : Atom ℕ → List (Atom ℕ) → List (Atom ℕ) → Type 0
 Adds a R T = T ≡ R ++ a ∷ []
 
 -- one copy of a permission goes, whichever, another comes for it, and the command's name gets `()`
-pub record Replaces (a b : Atom ℕ) (R : List (Atom ℕ)) (c : ℕ) (T : List (Atom ℕ)) : Type 0 where
+pub record Replaces (which : Which) (a b : Atom ℕ) (R : List (Atom ℕ)) (c : ℕ) (T : List (Atom ℕ)) : Type 0 where
   pub rest : List (Atom ℕ)
-  pub taken : TakesOne a R rest
+  pub taken : TakesBy which a R rest
   pub new : T ≡ (rest ++ b ∷ []) ++ Has_atom c Unknown_type ∷ []
 
 -- a function: the name gets the type of its signature
@@ -47,13 +51,13 @@ pub record Reads (R : List (Atom ℕ)) (c y con field : ℕ) (a : Atom ℕ) (T :
   pub new : Adds (Same_atom c name) R T
 
 -- a field is written: the block is mutable, and the permission for it gets the name z in that field
-pub record Writes (D : Decls) (R : List (Atom ℕ)) (c y con field z : ℕ) (a : Atom ℕ) (T : List (Atom ℕ)) : Type 0 where
+pub record Writes (which : Which) (D : Decls) (R : List (Atom ℕ)) (c y con field z : ℕ) (a : Atom ℕ) (T : List (Atom ℕ)) : Type 0 where
   pub fields : List ℕ
   pub adopts : Option ℕ
   pub block : a ≡ Has_atom y (Block_type con fields adopts)
   pub mutable : IsMutableCon D con
   pub within : field < length fields
-  pub changed : Replaces a (Has_atom y (Block_type con (slice_set fields field z) adopts)) R c T
+  pub changed : Replaces which a (Has_atom y (Block_type con (slice_set fields field z) adopts)) R c T
 
 -- where a block gets another constructor, its `adopts` stays if the new one is mutable, and goes if it isn't
 abbrev pub LeavesAdopts : Decls → ℕ → Option ℕ → Option ℕ → Type 0
@@ -61,7 +65,7 @@ LeavesAdopts D new before after = (IsMutableCon D new × (after ≡ before)) ⊎
 
 -- a constructor is changed for a declared one: the block is mutable, and its fields keep their names by position. Where
 -- the new constructor is immutable the block is frozen
-pub record Retags (D : Decls) (R : List (Atom ℕ)) (c y old new : ℕ) (a : Atom ℕ) (T : List (Atom ℕ)) : Type 0 where
+pub record Retags (which : Which) (D : Decls) (R : List (Atom ℕ)) (c y old new : ℕ) (a : Atom ℕ) (T : List (Atom ℕ)) : Type 0 where
   pub fields : List ℕ
   pub adopts : Option ℕ
   pub block : a ≡ Has_atom y (Block_type old fields adopts)
@@ -70,29 +74,29 @@ pub record Retags (D : Decls) (R : List (Atom ℕ)) (c y old new : ℕ) (a : Ato
   pub declared : slice_get D.cons new ≡ Some con
   pub left : Option ℕ
   pub adopts_left : LeavesAdopts D new adopts left
-  pub changed : Replaces a (Has_atom y (Block_type new fields left)) R c T
+  pub changed : Replaces which a (Has_atom y (Block_type new fields left)) R c T
 
--- the rule of each kind of command, by whether a permission is named that it uses. A kind that isn't here has no rule
-abbrev pub Rule : Decls → List (Atom ℕ) → ℕ → Op → Option (Atom ℕ) → List (Atom ℕ) → Type 0
-Rule D R c (Int_op n) None T = Adds (Has_atom c Int_type) R T
-Rule D R c Unit_op None T = Adds (Has_atom c Unknown_type) R T
-Rule D R c (Fun_op function) None T = NamesFunction D R c function T
-Rule D R c (Copy_op y) None T = Adds (Same_atom c y) R T
-Rule D R c (Arith_op operator y z) None T = Computes R c y z T
-Rule D R c (New_op con fields) None T = Adds (Has_atom c (Block_type con fields None)) R T
-Rule D R c (Read_op y con field) (Some a) T = Reads R c y con field a T
-Rule D R c (Write_op y con field z) (Some a) T = Writes D R c y con field z a T
-Rule D R c (Retag_op y old new) (Some a) T = Retags D R c y old new a T
-Rule D R c (Print_op y) None T = Prints R c y T
-Rule D R c op uses T = ⊥
+-- a call: each need is used up in order, and what the call gives is added
+pub record Calls (which : Which) (D : Decls) (R : List (Atom ℕ)) (c g : ℕ) (ys : List ℕ) (a : Atom ℕ) (T : List (Atom ℕ)) : Type 0 where
+  pub callee : IsCallee D R g (length ys) a
+  pub rest : List (Atom ℕ)
+  pub used : UsesUpAllBy which (AffineAtom D) (at_args ys (needed callee.sig.needs)) R rest
+  pub back : List (Atom ℕ)
+  pub gives_back : GivesBack D callee.sig.needs back
+  pub new : T ≡ rest ++ given ys c back callee.sig.gives
 
--- a command, with the permission that it is said to use, leads from one state to another: its name is new, and its rule
--- leads there
-pub record Does (D : Decls) (R : List (Atom ℕ)) (command : Command) (uses : Option (Atom ℕ)) (T : List (Atom ℕ)) : Type 0 where
-  pub fresh : occurs (to_of command) R ≡ false
-  pub rule : Rule D R (to_of command) (op_of command) uses T
-
--- a command that names a function names one of the program's
-abbrev pub HasFunction : Decls → Op → Type 0
-HasFunction D (Fun_op function) = function < length D.fun_sigs
-HasFunction D op = Unit {0}
+-- the rule of each kind of plain command and of a call, by whether a permission is named that it uses. Another kind has no
+-- rule here
+abbrev pub PlainRule : Which → Decls → List (Atom ℕ) → ℕ → Op → Option (Atom ℕ) → List (Atom ℕ) → Type 0
+PlainRule which D R c (Int_op n) None T = Adds (Has_atom c Int_type) R T
+PlainRule which D R c Unit_op None T = Adds (Has_atom c Unknown_type) R T
+PlainRule which D R c (Fun_op function) None T = NamesFunction D R c function T
+PlainRule which D R c (Copy_op y) None T = Adds (Same_atom c y) R T
+PlainRule which D R c (Arith_op operator y z) None T = Computes R c y z T
+PlainRule which D R c (New_op con fields) None T = Adds (Has_atom c (Block_type con fields None)) R T
+PlainRule which D R c (Read_op y con field) (Some a) T = Reads R c y con field a T
+PlainRule which D R c (Write_op y con field z) (Some a) T = Writes which D R c y con field z a T
+PlainRule which D R c (Retag_op y old new) (Some a) T = Retags which D R c y old new a T
+PlainRule which D R c (Call_op g ys) (Some a) T = Calls which D R c g ys a T
+PlainRule which D R c (Print_op y) None T = Prints R c y T
+PlainRule which D R c op uses T = ⊥

@@ -1,4 +1,7 @@
 pub mod Commands
-pub mod Answers
+pub mod Branches
 pub mod Laws
 pub mod Blocks
+pub mod Spending
+pub mod Walking
+pub mod Starting

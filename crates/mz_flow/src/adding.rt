@@ -1,19 +1,19 @@
 //! Rules that add one permission, and keep all that is held.
-ghost use Rattle.std.specs.Prelude.{ℕ, List, None};
-ghost use Rattle.mz_tree.specs.Plain.{Atom as PlainAtom, Has_atom, Block_type};
+ghost use Rattle.std.specs.Prelude.{None};
+ghost use Rattle.mz_tree.specs.Plain.{Has_atom, Block_type};
 ghost use Rattle.mz_tree.specs.View.{plain_atom};
 ghost use Rattle.mz_flow.specs.Commands.{Adds, Computes, Prints, Reads};
-ghost use Rattle.mz_flow.specs.Answers.{Answers};
+ghost use Rattle.mz_modes.specs.Answers.{Answers};
 
-use crate::RuleFault;
 use crate::block::fields_of;
+use mz_modes::RuleFault;
 use mz_perm::State;
 use mz_tree::{Alike, Atom, Names, Ty};
 use std::alloc::Global;
 
 /// Adds the permission.
 pub fn add(state: &mut State, atom: Atom) -> Result<(), RuleFault>
-    ensures { Answers (λ (S : List (PlainAtom ℕ)). Adds (plain_atom atom) state.old S) state.old state.new result }
+    ensures { Answers (λ _. Adds (plain_atom atom) state.old) state.old state.new result }
 {
     state.add(atom)?;
     Ok(())
@@ -27,7 +27,7 @@ pub fn make(
     con: u32,
     fields: &Names,
 ) -> Result<(), RuleFault>
-    ensures { Answers (λ (S : List (PlainAtom ℕ)). Adds (Has_atom to (Block_type con fields.now None)) state.old S) state.old state.new result }
+    ensures { Answers (λ _. Adds (Has_atom to (Block_type con fields.now None)) state.old) state.old state.new result }
 {
     let fields = fields.copy(alloc)?;
     add(
@@ -45,7 +45,7 @@ pub fn make(
 
 /// Adds the result of arithmetic on two integers.
 pub fn compute(state: &mut State, to: u32, left: u32, right: u32) -> Result<(), RuleFault>
-    ensures { Answers (λ (S : List (PlainAtom ℕ)). Computes state.old to left right S) state.old state.new result }
+    ensures { Answers (λ _. Computes state.old to left right) state.old state.new result }
 {
     let first = Atom::Has {
         name: left,
@@ -69,7 +69,7 @@ pub fn compute(state: &mut State, to: u32, left: u32, right: u32) -> Result<(), 
 
 /// Adds the unit result of a print of an integer.
 pub fn print(state: &mut State, to: u32, from: u32) -> Result<(), RuleFault>
-    ensures { Answers (λ (S : List (PlainAtom ℕ)). Prints state.old to from S) state.old state.new result }
+    ensures { Answers (λ _. Prints state.old to from) state.old state.new result }
 {
     let printed = Atom::Has {
         name: from,
@@ -96,7 +96,7 @@ pub fn read(
     field: u32,
     atom: &Atom,
 ) -> Result<(), RuleFault>
-    ensures { Answers (λ (S : List (PlainAtom ℕ)). Reads state.old to block con field (plain_atom atom.now) S) state.old state.new result }
+    ensures { Answers (λ _. Reads state.old to block con field (plain_atom atom.now)) state.old state.new result }
 {
     let fields = match fields_of(atom, block, con) {
         Some(fields) => fields,

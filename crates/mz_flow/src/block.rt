@@ -1,15 +1,9 @@
 //! Permissions for blocks.
 ghost use Rattle.std.specs.Prelude.{◌≡◌, option_copied};
 ghost use Rattle.mz_tree.specs.View.{plain_atom};
-ghost use Rattle.mz_decl.specs.Declarations.{Decls as PlainDecls};
-ghost use Rattle.mz_modes.specs.Affine.{IsMutableCon, Says};
-ghost use Rattle.mz_modes.specs.Modes.{AreModes};
 ghost use Rattle.mz_flow.specs.Blocks.{AreFields, adopts_of};
 
-use mz_modes::Modes;
 use mz_tree::{Atom, Names, Ty};
-use sqlite_items::Items;
-use std::alloc::Global;
 
 /// The names of the fields, where the permission is for a block of this name with the tag of this constructor. It takes
 /// no memory.
@@ -45,15 +39,4 @@ pub fn adopts_of(atom: &Atom) -> Option<u32>
             _ => None,
         },
     }
-}
-
-/// Whether the constructor is one of a mutable data type. It takes no memory.
-pub fn is_mutable(alloc: Global, modes: &Modes, con: u32) -> bool
-    ensures { (D : PlainDecls) → AreModes D modes.now → Says result (IsMutableCon D con) }
-{
-    modes.exclusive(&Ty::Block {
-        con,
-        fields: Items::new(alloc),
-        adopts: None,
-    })
 }

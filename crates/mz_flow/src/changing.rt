@@ -1,17 +1,14 @@
 //! Rules that change the permission for a mutable block.
-ghost use Rattle.std.specs.Prelude.{ℕ, List};
-ghost use Rattle.mz_tree.specs.Plain.{Atom as PlainAtom};
 ghost use Rattle.mz_tree.specs.View.{plain_atom};
 ghost use Rattle.mz_decl.specs.Declarations.{Decls as PlainDecls};
 ghost use Rattle.mz_decl.specs.View.{plain_decls};
 ghost use Rattle.mz_modes.specs.Modes.{AreModes};
 ghost use Rattle.mz_flow.specs.Commands.{Replaces, Writes, LeavesAdopts, Retags};
-ghost use Rattle.mz_flow.specs.Answers.{Answers};
+ghost use Rattle.mz_modes.specs.Answers.{Answers};
 
-use crate::RuleFault;
-use crate::block::{adopts_of, fields_of, is_mutable};
+use crate::block::{adopts_of, fields_of};
 use mz_decl::Decls;
-use mz_modes::Modes;
+use mz_modes::{Modes, RuleFault};
 use mz_perm::State;
 use mz_tree::{Alike, Atom, Ty};
 use std::alloc::Global;
@@ -24,7 +21,7 @@ fn change(
     atom: &Atom,
     changed: Atom,
 ) -> Result<(), RuleFault>
-    ensures { Answers (λ (S : List (PlainAtom ℕ)). Replaces (plain_atom atom.now) (plain_atom changed) state.old to S) state.old state.new result }
+    ensures { Answers (λ which. Replaces which (plain_atom atom.now) (plain_atom changed) state.old to) state.old state.new result }
 {
     let mut next = state.copy(alloc)?;
     if !next.remove(atom) {
@@ -51,7 +48,7 @@ pub fn write(
     from: u32,
     atom: &Atom,
 ) -> Result<(), RuleFault>
-    ensures { (D : PlainDecls) → AreModes D modes.now → Answers (λ (S : List (PlainAtom ℕ)). Writes D state.old to block con field from (plain_atom atom.now) S) state.old state.new result }
+    ensures { (D : PlainDecls) → AreModes D modes.now → Answers (λ which. Writes which D state.old to block con field from (plain_atom atom.now)) state.old state.new result }
 {
     let fields = match fields_of(atom, block, con) {
         Some(fields) => fields,
@@ -60,7 +57,7 @@ pub fn write(
     if field as usize >= fields.len() {
         return Err(RuleFault::NoInstance);
     }
-    if !is_mutable(alloc, modes, con) {
+    if !modes.is_mutable_con(con) {
         return Err(RuleFault::NoInstance);
     }
     let mut fields = fields.copy(alloc)?;
@@ -94,20 +91,20 @@ pub fn retag(
     atom: &Atom,
 ) -> Result<(), RuleFault>
     requires { AreModes (plain_decls decls.now) modes.now }
-    ensures { Answers (λ (S : List (PlainAtom ℕ)). Retags (plain_decls decls.now) state.old to block old_con new_con (plain_atom atom.now) S) state.old state.new result }
+    ensures { Answers (λ which. Retags which (plain_decls decls.now) state.old to block old_con new_con (plain_atom atom.now)) state.old state.new result }
 {
     let fields = match fields_of(atom, block, old_con) {
         Some(fields) => fields,
         None => return Err(RuleFault::NoInstance),
     };
-    if !is_mutable(alloc, modes, old_con) {
+    if !modes.is_mutable_con(old_con) {
         return Err(RuleFault::NoInstance);
     }
     if new_con >= decls.cons() {
         return Err(RuleFault::NoInstance);
     }
     let fields = fields.copy(alloc)?;
-    let adopts = adopts_left(alloc, modes, new_con, adopts_of(atom));
+    let adopts = adopts_left(modes, new_con, adopts_of(atom));
     change(
         alloc,
         state,
@@ -125,10 +122,10 @@ pub fn retag(
 }
 
 // what a block adopts once it has this constructor
-fn adopts_left(alloc: Global, modes: &Modes, con: u32, adopts: Option<u32>) -> Option<u32>
+fn adopts_left(modes: &Modes, con: u32, adopts: Option<u32>) -> Option<u32>
     ensures { (D : PlainDecls) → AreModes D modes.now → LeavesAdopts D con adopts result }
 {
-    if is_mutable(alloc, modes, con) {
+    if modes.is_mutable_con(con) {
         return adopts;
     }
     None

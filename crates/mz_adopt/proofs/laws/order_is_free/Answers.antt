@@ -1,0 +1,5 @@
+use Rattle.mz_adopt.proofs.Orders.{order_free}
+use Rattle.mz_adopt.proofs.laws.order_is_free.Goals as goal
+
+pub returns : goal.returns
+returns c = order_free

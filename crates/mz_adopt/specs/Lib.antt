@@ -1,0 +1,3 @@
+pub mod Adopting
+pub mod Adopters
+pub mod Laws

@@ -1,0 +1,4 @@
+pub mod Orders
+pub mod Firsts
+mod Answering
+mod Guarding

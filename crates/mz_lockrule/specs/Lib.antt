@@ -1,0 +1,4 @@
+pub mod Locking
+pub mod Guards
+pub mod Spending
+pub mod Laws
