@@ -1,9 +1,11 @@
 pub mod Scripts
 pub mod View
-pub mod Kinds
+pub mod Rules
 pub mod Walks
 pub mod Spelled
 pub mod Derivable
 pub mod Refused
+pub mod Numbers
 pub mod Laws
+pub mod Outer
 pub mod Parts

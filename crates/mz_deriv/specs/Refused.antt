@@ -7,12 +7,13 @@ use Rattle.mz_tree.specs.declared.types.Place.{Place}
 use Rattle.mz_decl.specs.Declarations.{Decls, decls_of}
 use Rattle.mz_modes.specs.Affine.{AffineAtom}
 use Rattle.mz_perm.specs.Using.{UsesUpAll}
+use Rattle.mz_decl.specs.Signatures.{parameters, needed, owed}
 use Rattle.mz_view.specs.Steps.{Step}
 use Rattle.mz_view.specs.Rules.{View}
-use Rattle.mz_flow.specs.Commands.{Does}
 use Rattle.mz_deriv.specs.Scripts.{Item, ScriptCases, See_item, Do_item, No_script_cases}
-use Rattle.mz_deriv.specs.Walks.{Branch, Branches, NamesOuter, joined, Walks, BranchesWalk}
-use Rattle.mz_deriv.specs.Derivable.{parameters, needed, owed, FunWalks, Derivable}
+use Rattle.mz_deriv.specs.Rules.{Does, Branch, Branches}
+use Rattle.mz_deriv.specs.Walks.{NamesOuter, joined, Walks, BranchesWalk}
+use Rattle.mz_deriv.specs.Derivable.{FunWalks, Derivable}
 use Rattle.mz_deriv.specs.declared.fault.DerivFault.{DerivFault}
 use Rattle.mz_deriv.specs.declared.fault.DerivFault.TheVariants.{BadStep, BadCommand, BadJoin, Memory}
 

@@ -3,8 +3,8 @@
 -- A walk goes along the commands of one body and the items of its script at once: a view step changes what is known and
 -- leaves the commands, and each command is made by its rule where the script says so. A command that goes on in branches
 -- is walked inside each of them, and what follows goes on from the permissions in which they join. `names` are the core
--- names that are bound where the walk stands, the last one first: the parameters, and the names of the commands before
--- it, in its own body and in the bodies round it.
+-- names that are bound where the walk stands: the parameters, and the names of the commands before
+-- it, in its own body and in the bodies round it, each as often as it is bound; only whether a name is among them counts.
 use Rattle.std.specs.Prelude.{◌≡◌, ◌⊎◌, ◌≤◌, ◌==◌, if◌then◌else◌, true, ℕ, List, [], ◌∷◌, map, Option}
 use Rattle.mz_tree.specs.Plain.{Atom, map_atom}
 use Rattle.mz_tree.specs.Code.{Command, Body, to_of, commands_in, result_of}
@@ -15,24 +15,17 @@ use Rattle.mz_perm.specs.Occurrence.{occurs}
 use Rattle.mz_perm.specs.Using.{UsesUpAll}
 use Rattle.mz_view.specs.Steps.{Step}
 use Rattle.mz_view.specs.Rules.{View}
-use Rattle.mz_flow.specs.Commands.{Does}
 use Rattle.mz_deriv.specs.Scripts.{Item, ScriptCases, See_item, Do_item, No_script_cases}
+use Rattle.mz_deriv.specs.Rules.{Does, Branch, Branches}
 
--- a branch of a command: what is known where it begins, its body, and the items of its script
-pub record Branch : Type 0 where
-  pub start : List (Atom ℕ)
-  pub body : Body
-  pub script : List Item
+-- a name is known outside of the branches of a command: a core name that is bound before it, or, of the names that view
+-- steps make, one that occurs in the state before it
+abbrev pub IsOuter : List ℕ → List (Atom ℕ) → ℕ → Type 0
+IsOuter names R n = In n names ⊎ ((256 ≤ n) × (occurs n R ≡ true))
 
--- the branches in which a command goes on, with these cases of the script. The rules of If and Match aren't written yet:
--- by them no command has branches
-abbrev pub Branches : Decls → List (Atom ℕ) → Command → Option (Atom ℕ) → ScriptCases → List Branch → Type 0
-Branches D R c uses cases branches = ⊥
-
--- a join names what is known outside of the branches: the command's own name, the core names that are bound before it,
--- and of the names that view steps make those that occur before it
+-- a join names what is known outside, and the command's own name
 abbrev pub NamesOuter : List ℕ → List (Atom ℕ) → Command → List (Atom ℕ) → Type 0
-NamesOuter names R c join = (n : ℕ) → occurs n join ≡ true → (n ≡ to_of c) ⊎ In n names ⊎ ((256 ≤ n) × (occurs n R ≡ true))
+NamesOuter names R c join = (n : ℕ) → occurs n join ≡ true → (n ≡ to_of c) ⊎ IsOuter names R n
 
 -- one name for another
 abbrev pub in_place_of : ℕ → ℕ → ℕ → ℕ

@@ -1,43 +1,45 @@
-//! The way of a script through a body.
-ghost use Rattle.std.specs.Prelude.{◌≡◌, ◌≤◌, length, option_map};
-ghost use Rattle.mz_tree.specs.View.{plain_atom, plain_atoms, plain_op, plain_command, plain_commands, plain_body};
-ghost use Rattle.mz_decl.specs.Declarations.{Decls as PlainDecls};
+//! The way of a script through a body, and through the bodies of its commands.
+ghost use Rattle.std.specs.Prelude.{◌≡◌, ◌≤◌, ◌++◌, ◌∷◌, [], List, length, map, drop, option_map, IfOk};
+ghost use Rattle.mz_tree.specs.View.{plain_atom, plain_atoms, plain_command, plain_commands, plain_body};
 ghost use Rattle.mz_decl.specs.View.{plain_decls};
-ghost use Rattle.mz_modes.specs.Affine.{Says};
 ghost use Rattle.mz_modes.specs.Modes.{AreModes};
 ghost use Rattle.mz_view.specs.Steps.{plain_step};
-ghost use Rattle.mz_flow.specs.Commands.{HasFunction};
 ghost use Rattle.mz_deriv.specs.Scripts.{script_cases_of};
 ghost use Rattle.mz_deriv.specs.View.{plain_item, plain_script_cases};
+ghost use Rattle.mz_deriv.specs.Rules.{Branch, Branches};
 ghost use Rattle.mz_deriv.specs.Refused.{next_place};
-ghost use Rattle.mz_deriv.specs.Parts.{Sees, Makes, Leads};
-ghost use Rattle.std.specs.Prelude.{map, drop};
+ghost use Rattle.mz_deriv.specs.Parts.{Sees, Makes, Leads, BranchLeads, BranchesLead};
 
-use crate::{DerivFault, Item, ScriptCases};
+use crate::fork::{branch_start, fork};
+use crate::join::{state_of, with_value};
+use crate::outer::names_outer;
+use crate::rule::go_straight;
+use crate::{DerivFault, Item, ScriptCase, ScriptCases};
 use mz_decl::Decls;
-use mz_flow::{RuleFault, plain_rule};
-use mz_modes::Modes;
+use mz_flow::end_rule;
+use mz_modes::{Modes, RuleFault};
 use mz_perm::State;
-use mz_tree::{Atom, Atoms, Body, Command, Op, Place};
+use mz_tree::{Alike, Atom, Atoms, Body, Command, Memory, Names, Place};
 use mz_view::{ViewFault, ViewStep, apply};
 use std::alloc::Global;
 
-/// Goes along the items and the commands of the body at once, from this state to that at the body's end. `funs` is how
-/// many functions the program has.
+/// Goes along the items and the commands of the body at once, from this state to that at the body's end. `bound` are the
+/// names that are bound where the body begins.
+#[cycle(walks)]
 pub fn walk(
     alloc: Global,
+    items: &[Item],
     decls: &Decls,
     modes: &Modes,
-    funs: usize,
+    bound: &Names,
     state: &mut State,
     body: &Body,
-    items: &[Item],
 ) -> Result<(), DerivFault>
     requires modes { AreModes (plain_decls decls.now) modes.now }
-    requires functions { funs ≡ length (plain_decls decls.now).fun_sigs }
-    ensures { Leads (plain_decls decls.now) state.old (plain_body body.now) (map plain_item items.now) state.new result }
+    ensures { Leads (plain_decls decls.now) bound.now state.old (plain_body body.now) (map plain_item items.now) state.new result }
 {
     let commands = body.commands.as_slice();
+    let mut names = bound.copy(alloc)?;
     let mut done = 0;
     let mut made: u64 = 0;
     for i in 0..items.len() {
@@ -51,17 +53,11 @@ pub fn walk(
                 if done == commands.len() {
                     return Err(DerivFault::BadCommand { place: body.place });
                 }
+                let command = &commands[done];
                 make(
-                    alloc,
-                    decls,
-                    modes,
-                    funs,
-                    state,
-                    &commands[done],
-                    uses,
-                    cases,
-                    join,
+                    alloc, cases, decls, modes, &names, state, command, uses, join,
                 )?;
+                bind(&mut names, command.to)?;
                 done += 1;
                 made = 0;
             }
@@ -72,6 +68,109 @@ pub fn walk(
             place: commands[done].place,
         });
     }
+    Ok(())
+}
+
+// makes a command with what its item says: by its rule, or through its branches, which join there
+#[cycle(walks)]
+fn make(
+    alloc: Global,
+    cases: &ScriptCases,
+    decls: &Decls,
+    modes: &Modes,
+    bound: &Names,
+    state: &mut State,
+    command: &Command,
+    uses: &Option<Atom>,
+    join: &Atoms,
+) -> Result<(), DerivFault>
+    requires modes { AreModes (plain_decls decls.now) modes.now }
+    ensures { Makes (plain_decls decls.now) bound.now state.old (plain_command command.now) (option_map plain_atom uses.now) (script_cases_of (plain_script_cases cases.now)) (plain_atoms join.now) state.new result }
+{
+    if !command.op.branches() {
+        return go_straight(alloc, decls, modes, state, command, uses, cases, join);
+    }
+    fork(alloc, decls, modes, state, command, uses, cases)?;
+    if !names_outer(join.as_slice(), bound, state, command.to) {
+        return Err(DerivFault::BadJoin {
+            place: command.place,
+        });
+    }
+    walk_branches(
+        alloc,
+        cases.as_slice(),
+        decls,
+        modes,
+        bound,
+        state,
+        command,
+        uses,
+        join,
+    )?;
+    *state = state_of(alloc, join.as_slice())?;
+    Ok(())
+}
+
+// goes through each branch, all of which begin in this state
+#[cycle(walks)]
+fn walk_branches(
+    alloc: Global,
+    cases: &[ScriptCase],
+    decls: &Decls,
+    modes: &Modes,
+    bound: &Names,
+    state: &State,
+    command: &Command,
+    uses: &Option<Atom>,
+    join: &Atoms,
+) -> Result<(), DerivFault>
+    requires modes { AreModes (plain_decls decls.now) modes.now }
+    requires forks { (branches : List Branch) × Branches (plain_decls decls.now) state.now (plain_command command.now) (option_map plain_atom uses.now) (script_cases_of (plain_script_cases cases.now)) branches }
+    ensures { BranchesLead (plain_decls decls.now) bound.now state.now (plain_command command.now) (option_map plain_atom uses.now) (script_cases_of (plain_script_cases cases.now)) (plain_atoms join.now) result }
+{
+    for k in 0..cases.len() {
+        let case = &cases[k];
+        let (mut start, body) = branch_start(
+            alloc, decls, modes, state, command, uses, k, case.fresh,
+        )?;
+        let items = case.body.items.as_slice();
+        walk_branch(
+            alloc, items, decls, modes, bound, &mut start, command, body, join,
+        )?;
+    }
+    Ok(())
+}
+
+// goes through one branch, from where it begins, and uses up the join at its end
+#[cycle(walks)]
+fn walk_branch(
+    alloc: Global,
+    items: &[Item],
+    decls: &Decls,
+    modes: &Modes,
+    bound: &Names,
+    state: &mut State,
+    command: &Command,
+    body: &Body,
+    join: &Atoms,
+) -> Result<(), DerivFault>
+    requires modes { AreModes (plain_decls decls.now) modes.now }
+    ensures { BranchLeads (plain_decls decls.now) bound.now state.old (plain_command command.now) (plain_body body.now) (map plain_item items.now) (plain_atoms join.now) result }
+{
+    walk(alloc, items, decls, modes, bound, state, body)?;
+    let wanted = with_value(alloc, join.as_slice(), command.to, body.result)?;
+    match end_rule(alloc, modes, state, &wanted) {
+        Ok(()) => Ok(()),
+        Err(RuleFault::NoInstance) => Err(DerivFault::BadJoin { place: body.place }),
+        Err(RuleFault::Memory) => Err(DerivFault::Memory),
+    }
+}
+
+// one more name is bound
+fn bind(names: &mut Names, name: u32) -> Result<(), Memory>
+    ensures { IfOk result (λ _. names.new ≡ names.old ++ name ∷ []) }
+{
+    names.push(name)?;
     Ok(())
 }
 
@@ -106,50 +205,5 @@ fn see(
             step: number,
         }),
         Err(ViewFault::Memory) => Err(DerivFault::Memory),
-    }
-}
-
-// makes a command by its rule, with what its item says
-fn make(
-    alloc: Global,
-    decls: &Decls,
-    modes: &Modes,
-    funs: usize,
-    state: &mut State,
-    command: &Command,
-    uses: &Option<Atom>,
-    cases: &ScriptCases,
-    join: &Atoms,
-) -> Result<(), DerivFault>
-    requires modes { AreModes (plain_decls decls.now) modes.now }
-    requires functions { funs ≡ length (plain_decls decls.now).fun_sigs }
-    ensures { Makes (plain_decls decls.now) state.old (plain_command command.now) (option_map plain_atom uses.now) (script_cases_of (plain_script_cases cases.now)) (plain_atoms join.now) state.new result }
-{
-    let refused = DerivFault::BadCommand {
-        place: command.place,
-    };
-    if cases.len() != 0 {
-        return Err(refused);
-    }
-    if join.len() != 0 {
-        return Err(refused);
-    }
-    if !has_function(&command.op, funs) {
-        return Err(refused);
-    }
-    match plain_rule(alloc, decls, modes, state, command, uses.as_ref()) {
-        Ok(()) => Ok(()),
-        Err(RuleFault::NoInstance) => Err(refused),
-        Err(RuleFault::Memory) => Err(DerivFault::Memory),
-    }
-}
-
-// whether an operation that gives a function gives one of so many
-fn has_function(op: &Op, funs: usize) -> bool
-    ensures { (D : PlainDecls) → funs ≡ length D.fun_sigs → Says result (HasFunction D (plain_op op.now)) }
-{
-    match op {
-        Op::Fun(function) => (*function as usize) < funs,
-        _ => true,
     }
 }

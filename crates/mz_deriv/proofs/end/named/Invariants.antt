@@ -1,6 +1,0 @@
-use Rattle.std.proofs.Common.{◌≡◌}
-use Rattle.mz_view.specs.Contents.{names_from}
-use Rattle.mz_deriv.proofs.end.named.Given as goal
-
-abbrev pub invariant-loop-name : goal.invariant-loop-name
-invariant-loop-name l = l.names ≡ names_from 0 l.name
