@@ -1,0 +1,13 @@
+pub mod OneCell
+pub mod Begins
+pub mod Branches
+pub mod LastOnes
+pub mod OneThread
+pub mod Inverting
+pub mod Answering
+pub mod Suiting
+pub mod NextOnes
+pub mod OneAnswer
+pub mod CountedNames
+pub mod OneAct
+pub mod OneStep

@@ -1,0 +1,15 @@
+pub mod Configurations
+pub mod Bodies
+pub mod Operations
+pub mod Steps
+pub mod Safety
+pub mod Machine
+pub mod View
+pub mod Finding
+pub mod Doing
+pub mod Planning
+pub mod Moving
+pub mod Answering
+pub mod Accessing
+pub mod Opening
+pub mod Laws
