@@ -1,0 +1,14 @@
+pub mod Facts
+pub mod Programs
+pub mod Meaning
+pub mod Views
+pub mod Threads
+pub mod KeepsView
+pub mod Owners
+pub mod Commands
+pub mod KeepsCommand
+pub mod OpeningIsHeld
+pub mod Fine
+pub mod Safety
+pub mod Soundness
+pub mod Shown

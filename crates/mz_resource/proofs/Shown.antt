@@ -1,0 +1,5 @@
+-- Two programs.
+pub mod Inverting
+pub mod Doubling
+pub mod Lacking
+pub mod Sharing

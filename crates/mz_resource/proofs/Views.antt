@@ -1,0 +1,3 @@
+-- What a view step does to a share.
+pub mod Viewing
+pub mod Opening
