@@ -15,7 +15,8 @@ use Rattle.mz_scope.specs.Making.{CoreName, Made, Came, Came_to, Part, ◌>>=◌
 use Rattle.mz_scope.specs.Bodies.{flat_block}
 use Rattle.mz_scope.specs.Types.{flat_typed, flat_atoms}
 use Rattle.mz_scope.specs.Declarations.{is_other, declares, all_of, no_program, FunctionBody, body_made, with_params, too_many, fields_from, cons_from, data_type, signature, params_by_name, function, declarations}
-use Rattle.mz_scope.specs.Flattening.{flattened, program_in, flat_program, faults_in, faults_of, has_main}
+use Rattle.mz_scope.specs.Flattening.{flattened, program_in, flat_program, faults_in, faults_of}
+use Rattle.mz_tree.specs.Main.{has_main}
 use Rattle.mz_cli.specs.FirstForm.{names_function}
 use Rattle.mz_cli.proofs.NameKinds.{IsKinded}
 use Rattle.mz_cli.proofs.Cells.{CellNames, cell_variety, cell_con, cell_sig, IsOfCells}

@@ -15,12 +15,12 @@ mod CellTexts
 mod NumberMaps
 mod Proposed
 mod Known
+mod FewNames
 mod Derived
 mod Threads
 mod Locks
 mod Runs
 mod Progress
-mod Numbered
 mod Reading
 mod Ready
 mod Outcomes

@@ -16,7 +16,8 @@ use Rattle.mz_parse.specs.Parses as parses
 use Rattle.mz_parse.proofs.WholeSources as sources
 use Rattle.mz_scope.specs.Trees.{tree_of}
 use Rattle.mz_scope.specs.Faults as faults
-use Rattle.mz_scope.specs.Flattening.{flat_program, faults_of, has_main}
+use Rattle.mz_scope.specs.Flattening.{flat_program, faults_of}
+use Rattle.mz_tree.specs.Main.{has_main}
 use Rattle.mz_scope.specs.Reads.{Reads}
 use Rattle.mz_decl.specs.Places.{IsFirst}
 use Rattle.mz_decl.specs.Declarations.{decls_of, IsImmutableAdopter}
@@ -24,7 +25,7 @@ use Rattle.mz_modes.specs.Adopted.{IsNotExclusive}
 use Rattle.mz_cli.specs.declared.refusal.Refusal.{Refusal}
 use Rattle.mz_cli.specs.declared.refusal.Refusal.TheVariants.{TooLong, BadByte, BadNumber, NameTooLong, Unexpected, TooDeep, UnknownName, DeclaredTwice, WrongShape, CasesMissing, TooMany, NoMain, ImmutableAdopter, NotExclusive, Unbuilt}
 use Rattle.mz_cli.specs.FirstForm.{is_first_form}
-use Rattle.mz_cli.specs.Outcome.{Runs}
+use Rattle.mz_cli.specs.Outcome.{IsRunnable}
 use Rattle.mz_cli.specs.Refusals.{source_limit, HasTokens, HasTree, Causes}
 use Rattle.mz_cli.specs.OneRefusal.{AtMostOneRefusal, NothingRunsAndIsRefused}
 use Rattle.mz_cli.proofs.FirstFaults.{first_place, first_fault}
@@ -144,7 +145,7 @@ tree_decided : (tokens : Tokens) → IsDecided (parses.Faults tokens) (IsTree to
 tree_decided tokens = record {
   one_answer = λ f g a b. ap syntax_answer (sources.one_fault tokens f g a b);
   one_value = λ s t a b. sources.one_tree tokens s t a.0 b.0;
-  apart = λ f s a is. sources.tree_or_fault tokens s f is.0 is.1 a;
+  apart = λ f s a is. sources.tree_no_fault tokens s f is.0 is.1 a;
 }
 
 -- so tokens have one answer
@@ -222,9 +223,9 @@ settled bytes (NotExclusive place) (short, (program, reads, (none, first))) = by
 settled bytes Unbuilt (short, (program, reads, declared, other)) =
     by_program bytes program _ reads short (goes_on tt declared.on_mutable (goes_on tt declared.exclusive (ap form_answer (sym other))))
 
--- where the bytes run, none is the answer
-runs_settled : (bytes : List ℕ) (program : Program) (body : _) → Runs bytes program body → OfBytes bytes None
-runs_settled bytes program body runs =
+-- where they are a text that runs, none is the answer
+runs_settled : (bytes : List ℕ) (program : Program) → IsRunnable bytes program → OfBytes bytes None
+runs_settled bytes program runs =
     by_program bytes program None runs.reads runs.short (goes_on tt runs.declared.on_mutable (goes_on tt runs.declared.exclusive (ap form_answer (sym runs.first))))
 
 -- ---- the laws
@@ -237,6 +238,6 @@ one_refusal bytes one other a b =
 
 -- what runs is not refused
 pub run_or_refusal : NothingRunsAndIsRefused
-run_or_refusal bytes refusal program body cause runs =
-    let same : Some refusal ≡ None = same_bytes bytes (Some refusal) None (settled bytes refusal cause) (runs_settled bytes program body runs) in
+run_or_refusal bytes refusal program cause runs =
+    let same : Some refusal ≡ None = same_bytes bytes (Some refusal) None (settled bytes refusal cause) (runs_settled bytes program runs) in
     absurd (cc)

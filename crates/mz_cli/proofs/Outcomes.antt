@@ -41,9 +41,9 @@ halted program body place prints text main (w, leads, stops, same) written = (bo
 -- what the run answers is what the bytes answer
 pub run_answers : (bytes : List ℕ) (program : Program) (s : Status) (text : List ℕ) → length bytes ≤ source_limit → IsRead bytes program → IsReady program → RunAnswers program s text → Answers bytes s text
 run_answers bytes program status.Done text short read ready (body, w, main, leads, done, written) =
-    (program, body, w, record { short = short; reads = read.reads; declared = read.declared; first = read.first; derivable = ready.derivable; main = main; safe = ready.safe body main }, leads, done, written)
+    (program, body, w, record { runnable = record { short = short; reads = read.reads; declared = read.declared; first = read.first }; derivable = ready.derivable; main = main; safe = ready.safe body main }, leads, done, written)
 run_answers bytes program status.Stopped text short read ready (body, w, place, main, leads, stops, written) =
-    (program, body, w, place, record { short = short; reads = read.reads; declared = read.declared; first = read.first; derivable = ready.derivable; main = main; safe = ready.safe body main }, leads, stops, written)
+    (program, body, w, place, record { runnable = record { short = short; reads = read.reads; declared = read.declared; first = read.first }; derivable = ready.derivable; main = main; safe = ready.safe body main }, leads, stops, written)
 run_answers bytes program status.Refused text short reads ready h = absurd h
 run_answers bytes program status.Usage text short reads ready h = absurd h
 run_answers bytes program status.ReadFault text short reads ready h = absurd h

@@ -1,6 +1,7 @@
 -- A program that reads is ready to run: it is one of cells, so no run of it is ever wrong, and it has a derivation.
 use Rattle.std.proofs.Common.{ℕ, List}
 use Rattle.mz_tree.specs.Programs.{Program}
+use Rattle.mz_scoped.proofs.ScopedTexts.{read_scoped}
 use Rattle.mz_cli.specs.Answered.{IsRead, IsReady}
 use Rattle.mz_cli.proofs.Cells.{IsOfCells, has_main, kinded_main}
 use Rattle.mz_cli.proofs.CellTexts.{cells_read}
@@ -15,5 +16,5 @@ ready bytes program read =
       main = has_main program cells;
       safe = λ other main. never_wrong other (kinded_main program other cells main);
       numbered = λ other main. numbered other (kinded_main program other cells main);
-      derivable = derived program cells;
+      derivable = derived program cells (read_scoped bytes program read.reads);
     }

@@ -46,13 +46,16 @@ stop_line place = line (codes "stopped: thread 0: arithmetic at " ++ decimal pla
 abbrev pub IsDerivable : Program → Type 0
 IsDerivable program = (scripts : List (List Item)) × Derivable program scripts
 
--- the bytes are within the limit and the text of this program, which is declared and of the first form and has a
--- derivation, and no run of it is ever wrong
-pub record Runs (bytes : List ℕ) (program : Program) (body : Body) : Type 0 where
+-- the bytes are within the limit and the text of this program, which is declared and of the first form
+pub record IsRunnable (bytes : List ℕ) (program : Program) : Type 0 where
   pub short : length bytes ≤ source_limit
   pub reads : Reads bytes program
   pub declared : Declared program
   pub first : is_first_form reads.surface program ≡ true
+
+-- so they are, and the program has a derivation, and no run of it is ever wrong
+pub record Runs (bytes : List ℕ) (program : Program) (body : Body) : Type 0 where
+  pub runnable : IsRunnable bytes program
   pub derivable : IsDerivable program
   pub main : IsMain program body
   pub safe : NeverWrong body

@@ -5,7 +5,7 @@ ghost use Rattle.mz_tree.specs.Code.{Body as PlainBody};
 ghost use Rattle.mz_tree.specs.View.{plain_program, plain_body};
 ghost use Rattle.mz_scope.specs.Trees.{tree_of};
 ghost use Rattle.mz_scope.specs.Flattening.{Flattens};
-ghost use Rattle.mz_decl.specs.Declarations.{IsNumbered};
+ghost use Rattle.mz_tree.specs.Scoped.{Scoped};
 ghost use Rattle.mz_decl.specs.View.{plain_decls};
 ghost use Rattle.mz_cli.specs.Mains.{IsMain};
 ghost use Rattle.mz_cli.specs.Refusals.{HasTokens, HasTree};
@@ -82,7 +82,7 @@ fn are_exclusive(alloc: Global, decls: &Decls) -> Result<(), Stop>
 
 // Whether each `adopts` of the program stands on what is mutable and names what is mutable.
 fn declare(alloc: Global, program: &Program) -> Result<(), Stop>
-    requires { IsNumbered (plain_program program.now) }
+    requires { Scoped (plain_program program.now) }
     ensures { Declares (plain_program program.now) result }
 {
     match well_formed(alloc, program) {

@@ -29,6 +29,3 @@ mod top;
 pub use laws::{at_most_one_outcome, at_most_one_refusal, nothing_runs_and_is_refused};
 pub use status::Status;
 pub use top::{mezzo, mezzo_plain};
-
-#[cfg(test)]
-mod tests;

@@ -90,10 +90,12 @@ fn answer_to(alloc: Global, bytes: &[u8]) -> Result<Answer, Memory>
 // Writes a text, and answers the status that was to come.
 fn write_out<K: Sink>(sink: &mut K, text: &str, status: Status) -> Status
     requires { status ≡ Status.WriteFault → ⊥ }
-    ensures { ((result ≡ status) × Gains (K.written sink.old) (K.written sink.new) text.now)
+    ensures answer { ((result ≡ status) × Gains (K.written sink.old) (K.written sink.new) text.now)
         ⊎ ((result ≡ Status.WriteFault)
         × (Rose (K.faults sink.old) (K.faults sink.new) ⊎ Rose (K.stalls sink.old) (K.stalls sink.new))
         × GainsFront (K.written sink.old) (K.written sink.new) text.now) }
+    ensures faults { K.faults sink.old ≤ K.faults sink.new }
+    ensures stalls { K.stalls sink.old ≤ K.stalls sink.new }
 {
     match write_all(sink, text.as_bytes()) {
         Ok(()) => status,
@@ -117,6 +119,8 @@ fn write_out<K: Sink>(sink: &mut K, text: &str, status: Status) -> Status
 /// - `ReadFault`: the source failed, and nothing was written.
 /// - `WriteFault`: the sink failed or took nothing; a front of the text that was to come was written.
 /// - `Memory`: want of memory; nothing was written.
+///
+/// No count of the source or the sink falls.
 pub fn mezzo_plain<S: Source, K: Sink>(
     alloc: Global,
     words: &[String],
@@ -136,6 +140,9 @@ pub fn mezzo_plain<S: Source, K: Sink>(
           stalls_after = K.stalls sink.new;
         }) result }
     ensures unread { (IsSched words.now → ⊥) → source.new ≡ source.old }
+    ensures read_faults { S.faults source.old ≤ S.faults source.new }
+    ensures write_faults { K.faults sink.old ≤ K.faults sink.new }
+    ensures stalls { K.stalls sink.old ≤ K.stalls sink.new }
 {
     if !is_sched(words) {
         return write_out(sink, USAGE, Status::Usage);
@@ -176,6 +183,9 @@ pub fn mezzo<S: Source, K: Sink, G: Gate>(
           stalls_after = K.stalls sink.new;
         }) result }
     ensures unread { (IsSched words.now → ⊥) → source.new ≡ source.old }
+    ensures read_faults { S.faults source.old ≤ S.faults source.new }
+    ensures write_faults { K.faults sink.old ≤ K.faults sink.new }
+    ensures stalls { K.stalls sink.old ≤ K.stalls sink.new }
 {
     mezzo_plain(alloc, words, source, sink)
 }

@@ -2,14 +2,13 @@ use Rattle.std.proofs.Common.{◌≡◌, true, false, sym, ◌∙◌}
 use Rattle.mz_tree.specs.View.{plain_program}
 use Rattle.mz_cli.specs.Answered.{IsRead}
 use Rattle.mz_scoped.proofs.ScopedTexts.{read_scoped}
-use Rattle.mz_cli.proofs.Numbered.{numbered_of}
 use Rattle.mz_cli.proofs.Reading.{reads_of, refused_by}
 use Rattle.mz_cli.proofs.first.read_program.Goals as goal
 
 pub declare-requires : goal.declare-requires
 declare-requires c =
     let program = plain_program c.in-Ok-program_of.program in
-    numbered_of program (read_scoped c.args.bytes.now program (reads_of c.args.bytes.now c.in-Ok.surface program c.in-Ok.ensures c.in-Ok-program_of.ensures))
+    read_scoped c.args.bytes.now program (reads_of c.args.bytes.now c.in-Ok.surface program c.in-Ok.ensures c.in-Ok-program_of.ensures)
 
 pub returns-in-Err-declare : goal.returns-in-Err-declare
 returns-in-Err-declare c =

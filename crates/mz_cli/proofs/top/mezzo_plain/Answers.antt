@@ -7,7 +7,7 @@ use Rattle.mz_cli.proofs.top.mezzo_plain.Goals as goal
 pub returns-then-not-is_sched-clause-outcome : goal.returns-then-not-is_sched-clause-outcome
 returns-then-not-is_sched-clause-outcome g c =
     let other : IsSched c.args.words.now → ⊥ = λ is. let taken : IsTrue c.is_sched.result = c.is_sched.ensures.1 is in let refused : c.is_sched.result ≡ false = c.if-not-is_sched.true in cc in
-    written_out c.args.words.now _ status.Usage c.write_out.result usage_line (other, refl) c.write_out.ensures
+    written_out c.args.words.now _ status.Usage c.write_out.result usage_line (other, refl) c.write_out.ensures.answer
 
 pub returns-in-Ok-answer_to-clause-outcome : goal.returns-in-Ok-answer_to-clause-outcome
 returns-in-Ok-answer_to-clause-outcome g c =
@@ -16,7 +16,7 @@ returns-in-Ok-answer_to-clause-outcome g c =
     let same : c.deref-in-Ok-answer_to.result.now ≡ string_bytes c.in-Ok-answer_to.answer.text = c.deref-in-Ok-answer_to.ensures in
     let comes = comes_of c.args.words.now (g.S.Source.left c.args.source.now) c.in-Ok.bytes.items c.in-Ok-answer_to.answer.status (string_bytes c.in-Ok-answer_to.answer.text) sched (all_left _ _ _ c.in-Ok.ensures.all) answers in
     written_out c.args.words.now _ c.in-Ok-answer_to.answer.status c.write_out-in-Ok-answer_to.result c.deref-in-Ok-answer_to.result.now
-    (subst (λ l. Comes c.args.words.now (g.S.Source.left c.args.source.now) c.in-Ok-answer_to.answer.status l) (sym same) comes) c.write_out-in-Ok-answer_to.ensures
+    (subst (λ l. Comes c.args.words.now (g.S.Source.left c.args.source.now) c.in-Ok-answer_to.answer.status l) (sym same) comes) c.write_out-in-Ok-answer_to.ensures.answer
 
 pub returns-in-Ok-clause-outcome : goal.returns-in-Ok-clause-outcome
 returns-in-Ok-clause-outcome g c = (c.is_sched.ensures.0 c.if-not-is_sched.false, refl)
@@ -35,7 +35,7 @@ returns-in-Ok-refuse-clause-outcome g c =
     let same : c.deref-in-Ok-refuse.result.now ≡ string_bytes c.in-Ok-refuse.answer.text = c.deref-in-Ok-refuse.ensures in
     let comes = comes_of c.args.words.now (g.S.Source.left c.args.source.now) many.0 c.in-Ok-refuse.answer.status (string_bytes c.in-Ok-refuse.answer.text) sched many.1 answers in
     written_out c.args.words.now _ c.in-Ok-refuse.answer.status c.write_out-in-Ok-refuse.result c.deref-in-Ok-refuse.result.now
-    (subst (λ l. Comes c.args.words.now (g.S.Source.left c.args.source.now) c.in-Ok-refuse.answer.status l) (sym same) comes) c.write_out-in-Ok-refuse.ensures
+    (subst (λ l. Comes c.args.words.now (g.S.Source.left c.args.source.now) c.in-Ok-refuse.answer.status l) (sym same) comes) c.write_out-in-Ok-refuse.ensures.answer
 
 pub returns-clause-outcome : goal.returns-clause-outcome
 returns-clause-outcome g c = (c.is_sched.ensures.0 c.if-not-is_sched.false, refl)

@@ -1,5 +1,5 @@
 //! The tables of tests: what is called, and what is wanted of it.
-use crate::Status;
+use mz_cli::Status;
 
 /// The source of one cell.
 pub(super) const ONE_CELL: &[u8] = b"data mutable cell = Cell { v: int }
@@ -176,7 +176,7 @@ pub(super) struct Refused {
 }
 
 /// Sources that are refused.
-pub(super) const REFUSALS: [Refused; 24] = [
+pub(super) const REFUSALS: [Refused; 27] = [
     Refused {
         name: "no function",
         bytes: b"",
@@ -361,5 +361,58 @@ fun main : start = { print main.v }",
 sig start = () -> (r: unknown)
 fun main : start = { print 1 + 2 + 3 }",
         line: b"refused: not built yet\n",
+    },
+    Refused {
+        name: "a case is missing in a whole program",
+        bytes: b"data mutable raw = Raw { head: int; tail: unknown }
+data list = Nil { } | Cons { head: int; tail: list }
+sig start = () -> (r: unknown)
+sig look = (x: list) -> (r: unknown)
+fun show : look = {
+  match x { Cons -> { print x.Cons.head } }
+}
+fun main : start = {
+  let n = Nil { };
+  let x = Raw { head = 7; tail = () };
+  x.Raw.tail <- n;
+  retag x from Raw to Cons;
+  spawn show(x);
+  spawn show(x)
+}
+",
+        line: b"refused: 6:3: cases missing\n",
+    },
+    Refused {
+        name: "what is adopted is immutable, in a whole program",
+        bytes: b"data mutable raw = Raw { head: int; tail: unknown }
+data list = Nil { } | Cons { head: int; tail: list }
+data mutable e adopts list = E { }
+sig start = () -> (r: unknown)
+sig look = (x: list) -> (r: unknown)
+fun show : look = {
+  match x { Nil -> { () } Cons -> { print x.Cons.head } }
+}
+fun main : start = {
+  let n = Nil { };
+  let x = Raw { head = 7; tail = () };
+  x.Raw.tail <- n;
+  retag x from Raw to Cons;
+  spawn show(x);
+  spawn show(x)
+}
+",
+        line: b"refused: 3:14: not exclusive\n",
+    },
+    Refused {
+        name: "what adopts is immutable, in a whole program",
+        bytes: b"data d adopts d = D { }
+data mutable cell = Cell { v: int }
+sig start = () -> (r: unknown)
+fun main : start = {
+  let c = Cell { v = 41 };
+  c.v <- c.v + 1;
+  print c.v
+}",
+        line: b"refused: 1:6: immutable adopter\n",
     },
 ];

@@ -1,8 +1,8 @@
 //! What is refused, with its line; and every front of a text.
 use super::table::{ONE_CELL, REFUSALS, Refused};
 use super::words_of;
-use crate::{Status, mezzo_plain};
 use mz_base::{MemorySink, MemorySource};
+use mz_cli::{Status, mezzo_plain};
 use std::alloc::Global;
 use std::test::Fail;
 

@@ -3,11 +3,11 @@
 mod refusals;
 mod table;
 
-use crate::{Status, mezzo, mezzo_plain};
 use mz_base::{Failed, MemorySink, MemorySource, OpenGate, Sink, Source};
+use mz_cli::{Status, mezzo, mezzo_plain};
 use std::alloc::{AllocError, Global};
 use std::test::Fail;
-use table::{CALLS, Call};
+use table::{CALLS, Call, ONE_CELL};
 
 fn words_of(alloc: Global, mode: &str) -> Result<Vec<String>, AllocError> {
     let mut words = Vec::new(alloc);
@@ -46,6 +46,30 @@ fn wrong_call(alloc: Global, rows: &[Call]) -> Result<Option<&'static str>, Fail
 #[test]
 fn calls_answer_and_write(rt: HostRuntime) -> Result<(), Fail> {
     assert_eq!(rt; wrong_call(rt.alloc(), &CALLS)?, None);
+    Ok(())
+}
+
+// What the program of one cell is answered with a comment behind it that makes it so long.
+fn answer_at_length(alloc: Global, length: usize) -> Result<(Status, Vec<u8>), Fail> {
+    let mut bytes = ONE_CELL.to_vec(alloc)?;
+    bytes.extend_from_slice(b"//")?;
+    for _ in bytes.len()..length {
+        bytes.push(b'x')?;
+    }
+    let mut source = MemorySource::new(bytes, 4096, Vec::new(alloc));
+    let mut sink = MemorySink::new(Vec::with_capacity(alloc, 200)?, 4096, Vec::new(alloc));
+    let status = mezzo_plain(alloc, &words_of(alloc, "sched")?, &mut source, &mut sink);
+    Ok((status, sink.bytes().to_vec(alloc)?))
+}
+
+#[test]
+fn the_longest_text_runs_and_one_byte_more_does_not(rt: HostRuntime) -> Result<(), Fail> {
+    let (status, written) = answer_at_length(rt.alloc(), 1_048_576)?;
+    assert_eq!(rt; status, Status::Done);
+    assert!(rt; written.as_slice() == b"42\n".as_slice());
+    let (status, written) = answer_at_length(rt.alloc(), 1_048_577)?;
+    assert_eq!(rt; status, Status::Refused);
+    assert!(rt; written.as_slice() == b"refused: too long\n".as_slice());
     Ok(())
 }
 
