@@ -12,14 +12,17 @@ use crate::numbers::is_numbered;
 use mz_tree::{Alike, Funs, Memory, Names, Place, Program};
 use sqlite_items::Items;
 use std::alloc::Global;
+use thiserror::Error;
 
 /// Why a program's declarations aren't well formed.
-#[derive(Clone, Copy, Debug, PartialEq, Eq)]
+#[derive(Clone, Copy, Debug, PartialEq, Eq, Error)]
 pub enum DeclFault {
     /// An `adopts` stands on an immutable data type, or on a structural type of an immutable constructor. Of all such
     /// places this is the first: that of the data type's own name, or that of the name after `adopts`.
+    #[error("adopts clause on an immutable type at {0}")]
     ImmutableAdopter(Place),
     /// Memory is wanting.
+    #[error("not enough memory to hold the declarations")]
     Memory,
 }
 

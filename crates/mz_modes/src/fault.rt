@@ -1,12 +1,15 @@
 //! Why a rule isn't followed.
 use mz_tree::Memory;
+use thiserror::Error;
 
 /// Why a rule doesn't change a state, which is as it was.
-#[derive(Clone, Copy, Debug, PartialEq, Eq)]
+#[derive(Clone, Copy, Debug, PartialEq, Eq, Error)]
 pub enum RuleFault {
     /// The rule has no instance in the state with what is named.
+    #[error("no instance of the rule in the state")]
     NoInstance,
     /// Memory is wanting.
+    #[error("not enough memory to follow the rule")]
     Memory,
 }
 

@@ -8,14 +8,17 @@ ghost use Rattle.mz_modes.specs.Modes.{AreModes};
 use crate::marks::is_marked;
 use mz_tree::{Atom, Memory, Place, Ty};
 use sqlite_items::Items;
+use thiserror::Error;
 
 /// Why declarations have no modes.
-#[derive(Clone, Copy, Debug, PartialEq, Eq)]
+#[derive(Clone, Copy, Debug, PartialEq, Eq, Error)]
 pub enum ModeFault {
     /// An `adopts` names an immutable data type. Of all such places this is the first: that of a data type's own name,
     /// where it stands at a declaration, or that of the name after `adopts` of a structural type.
+    #[error("adopts clause at {0} names an immutable data type")]
     NotExclusive(Place),
     /// Memory is wanting.
+    #[error("not enough memory to mark the affine data types")]
     Memory,
 }
 

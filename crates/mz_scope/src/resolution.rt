@@ -21,24 +21,32 @@ use mz_parse::Surface;
 use mz_tree::{Fun, Memory, Place, Program, Sig};
 use sqlite_items::Items;
 use std::alloc::Global;
+use thiserror::Error;
 
 /// Why a source has no flat program.
-#[derive(Clone, Copy, Debug, PartialEq, Eq)]
+#[derive(Clone, Copy, Debug, PartialEq, Eq, Error)]
 pub enum ScopeFault {
     /// A name isn't declared in its sort and scope: the name.
+    #[error("unknown name at {0}")]
     Unknown(Place),
     /// A name is declared again: the second one.
+    #[error("name declared a second time at {0}")]
     Twice(Place),
     /// Fields, arguments or constructors don't fit what is declared: the constructor, the callee, the field, the case or
     /// the key `retag`.
+    #[error("fields, arguments or constructors at {0} do not fit their declaration")]
     Shape(Place),
     /// A match lacks a constructor of its data type: the key `match`.
+    #[error("match at {0} lacks a constructor of its data type")]
     NotExhaustive(Place),
     /// A limit is passed: the first item past it.
+    #[error("limit passed by what stands at {0}")]
     TooMany(Place),
     /// There is no function `main` without parameters.
+    #[error("no function main without parameters")]
     NoMain,
     /// Memory is wanting.
+    #[error("not enough memory to hold the flat program of the source")]
     Memory,
 }
 

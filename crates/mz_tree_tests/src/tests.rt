@@ -1,5 +1,8 @@
 //! A copy of each value is the same as the original, and not the same as a value that differs in one number.
-use crate::*;
+use mz_tree::{
+    Alike, Arith, Atom, Body, Case, Clause, Command, Con, Field, Fun, Memory, Need, Op, Place,
+    Program, Sig, Ty, Variety,
+};
 use sqlite_items::Items;
 use std::alloc::Global;
 use std::test::Fail;
