@@ -75,8 +75,10 @@ fn lawful_modes(alloc: Global, decls: &Decls) -> Result<Modes, Memory>
     }
 }
 
-// checks the script of one function
-fn check_fun(
+/// Checks the script of one function, over declarations and their modes: Ok just where it leads through the function's body from
+/// what its signature needs to what it owes, and else the first point, in the order of the script, that has no instance. The
+/// function's signature is declared. It is for those who have a function and not the whole program.
+pub fn check_fun(
     alloc: Global,
     decls: &Decls,
     modes: &Modes,

@@ -29,7 +29,7 @@ mod rule;
 mod script;
 mod walk;
 
-pub use check::check_derivation;
+pub use check::{check_derivation, check_fun};
 pub use fault::DerivFault;
 pub use laws::{at_most_one_refusal, leads_to_one, no_derivation_is_refused, order_is_free};
 pub use script::{Derivation, Item, Script, ScriptCase, ScriptCases, Scripts};

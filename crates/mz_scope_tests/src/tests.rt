@@ -6,8 +6,8 @@ use mz_tree::Place;
 use std::alloc::Global;
 use std::test::Fail;
 use table::{
-    AT_ONE_PLACE, FLAT_BODIES, FLAT_SOURCES, LIMITS, Many, REFUSED_BODIES, REFUSED_SOURCES, Row,
-    Shape,
+    AT_ONE_PLACE, FLAT_BODIES, FLAT_SOURCES, LIMITS, Many, OPERATORS, REFUSED_BODIES,
+    REFUSED_SOURCES, Row, Shape,
 };
 use words::{declared, function};
 
@@ -120,6 +120,13 @@ fn sources_are_refused(rt: HostRuntime) -> Result<(), Fail> {
 fn bodies_are_flattened(rt: HostRuntime) -> Result<(), Fail> {
     let alloc = rt.alloc();
     assert_eq!(rt; wrong_body(alloc, &FLAT_BODIES)?, None);
+    Ok(())
+}
+
+#[test]
+fn operators_are_flattened(rt: HostRuntime) -> Result<(), Fail> {
+    let alloc = rt.alloc();
+    assert_eq!(rt; wrong_body(alloc, &OPERATORS)?, None);
     Ok(())
 }
 

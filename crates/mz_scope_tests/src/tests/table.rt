@@ -314,6 +314,54 @@ pub(super) const FLAT_BODIES: [Row; 27] = [
     ),
 ];
 
+/// Each operator and each comparison between two numbers, and what it comes to in `main`.
+pub(super) const OPERATORS: [Row; 11] = [
+    (
+        "8 + 3",
+        "fun main s0 [0 int 8 7:1; 1 int 3 7:5; 2 Add 0 1 7:3; = 2 8:1] _ _ _",
+    ),
+    (
+        "8 - 3",
+        "fun main s0 [0 int 8 7:1; 1 int 3 7:5; 2 Sub 0 1 7:3; = 2 8:1] _ _ _",
+    ),
+    (
+        "8 * 3",
+        "fun main s0 [0 int 8 7:1; 1 int 3 7:5; 2 Mul 0 1 7:3; = 2 8:1] _ _ _",
+    ),
+    (
+        "8 / 3",
+        "fun main s0 [0 int 8 7:1; 1 int 3 7:5; 2 Div 0 1 7:3; = 2 8:1] _ _ _",
+    ),
+    (
+        "8 % 3",
+        "fun main s0 [0 int 8 7:1; 1 int 3 7:5; 2 Rem 0 1 7:3; = 2 8:1] _ _ _",
+    ),
+    (
+        "8 == 3",
+        "fun main s0 [0 int 8 7:1; 1 int 3 7:6; 2 Eq 0 1 7:3; = 2 8:1] _ _ _",
+    ),
+    (
+        "8 != 3",
+        "fun main s0 [0 int 8 7:1; 1 int 3 7:6; 2 Ne 0 1 7:3; = 2 8:1] _ _ _",
+    ),
+    (
+        "8 < 3",
+        "fun main s0 [0 int 8 7:1; 1 int 3 7:5; 2 Lt 0 1 7:3; = 2 8:1] _ _ _",
+    ),
+    (
+        "8 <= 3",
+        "fun main s0 [0 int 8 7:1; 1 int 3 7:6; 2 Le 0 1 7:3; = 2 8:1] _ _ _",
+    ),
+    (
+        "8 > 3",
+        "fun main s0 [0 int 8 7:1; 1 int 3 7:5; 2 Gt 0 1 7:3; = 2 8:1] _ _ _",
+    ),
+    (
+        "8 >= 3",
+        "fun main s0 [0 int 8 7:1; 1 int 3 7:6; 2 Ge 0 1 7:3; = 2 8:1] _ _ _",
+    ),
+];
+
 /// Whole sources and what all of their declarations, and the last function, come to.
 pub(super) const FLAT_SOURCES: [Row; 4] = [
     (
