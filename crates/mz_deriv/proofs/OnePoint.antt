@@ -32,7 +32,7 @@ RefusalOf D f script fault sig = Refuses D (parameters sig) (needed sig.needs) (
 
 module _ (o : Orders) where
   -- a function whose script leads through its body isn't refused
-  fun_walks_not_refused : (D : Decls) (f : Fun) (script : List Item) (fault : DerivFault) → FunWalks D f script → FunRefused D f script fault → ⊥
+  pub fun_walks_not_refused : (D : Decls) (f : Fun) (script : List Item) (fault : DerivFault) → FunWalks D f script → FunRefused D f script fault → ⊥
   fun_walks_not_refused D f script fault w (Body_refused sig signed r) =
       let same : w.sig ≡ sig = some_is _ _ (sym w.signed ∙ signed) in
       walked_not_refused o D (needed sig.needs) (perm_refl (needed sig.needs)) (subst (λ (s : Sig). WalkOf D f script w.last s) same w.walks) r
@@ -43,7 +43,7 @@ module _ (o : Orders) where
       n all.0 (subst (λ (s : Sig). AllOwed D f last all.0 s) same all.1)
 
   -- a function is refused at one point
-  fun_refused_once : (D : Decls) (f : Fun) (script : List Item) (fault other : DerivFault) → FunRefused D f script fault → FunRefused D f script other → fault ≡ other
+  pub fun_refused_once : (D : Decls) (f : Fun) (script : List Item) (fault other : DerivFault) → FunRefused D f script fault → FunRefused D f script other → fault ≡ other
   fun_refused_once D f script fault other (Body_refused sig signed r) (Body_refused sig' signed' r') =
       let same : sig ≡ sig' = some_is _ _ (sym signed ∙ signed') in
       refused_once o D (needed sig'.needs) (perm_refl (needed sig'.needs)) (subst (λ (s : Sig). RefusalOf D f script fault s) same r) r'

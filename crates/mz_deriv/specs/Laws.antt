@@ -3,13 +3,13 @@
 use Rattle.std.specs.Prelude.{◌≡◌, ℕ, List}
 use Rattle.mz_tree.specs.Plain.{Atom}
 use Rattle.mz_tree.specs.Code.{Command}
-use Rattle.mz_tree.specs.Programs.{Program}
+use Rattle.mz_tree.specs.Programs.{Program, Fun}
 use Rattle.mz_decl.specs.Declarations.{Decls}
 use Rattle.mz_perm.specs.Lists.{SameUpToOrder}
 use Rattle.mz_deriv.specs.Scripts.{Item}
 use Rattle.mz_deriv.specs.Walks.{Walks}
-use Rattle.mz_deriv.specs.Derivable.{Derivable}
-use Rattle.mz_deriv.specs.Refused.{RefusedAt}
+use Rattle.mz_deriv.specs.Derivable.{Derivable, FunWalks}
+use Rattle.mz_deriv.specs.Refused.{RefusedAt, FunRefused}
 use Rattle.mz_deriv.specs.declared.fault.DerivFault.{DerivFault}
 
 -- what is a derivation is refused nowhere
@@ -19,6 +19,13 @@ NoDerivationIsRefused = (p : Program) (scripts : List (List Item)) (fault : Deri
 -- what is refused is refused at one point
 abbrev pub AtMostOneRefusal : Type 0
 AtMostOneRefusal = (p : Program) (scripts : List (List Item)) (fault other : DerivFault) → RefusedAt p scripts fault → RefusedAt p scripts other → fault ≡ other
+
+-- so of one function and its script, over any declarations
+abbrev pub NoWalkOfAFunIsRefused : Type 0
+NoWalkOfAFunIsRefused = (D : Decls) (f : Fun) (script : List Item) (fault : DerivFault) → FunWalks D f script → FunRefused D f script fault → ⊥
+
+abbrev pub AtMostOneRefusalOfAFun : Type 0
+AtMostOneRefusalOfAFun = (D : Decls) (f : Fun) (script : List Item) (fault other : DerivFault) → FunRefused D f script fault → FunRefused D f script other → fault ≡ other
 
 -- a state to which a script leads from one that is the same up to order
 pub record WalksAlike (D : Decls) (names : List ℕ) (R : List (Atom ℕ)) (commands : List Command) (items : List Item) (T : List (Atom ℕ)) : Type 0 where

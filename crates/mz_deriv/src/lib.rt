@@ -31,5 +31,8 @@ mod walk;
 
 pub use check::{check_derivation, check_fun};
 pub use fault::DerivFault;
-pub use laws::{at_most_one_refusal, leads_to_one, no_derivation_is_refused, order_is_free};
+pub use laws::{
+    at_most_one_refusal, at_most_one_refusal_of_a_fun, leads_to_one, no_derivation_is_refused,
+    no_walk_of_a_fun_is_refused, order_is_free,
+};
 pub use script::{Derivation, Item, Script, ScriptCase, ScriptCases, Scripts};
