@@ -77,8 +77,8 @@ pub fn step(
 }
 
 /// One step of thread number `thread`, and what came of it. There are fewer than 4,294,967,295 threads, and as many blocks
-/// and locks. After `Waits`, `Wrong` and want of memory the configuration is as it was, and so where the thread had ended
-/// or stopped before.
+/// and locks; a step makes at most one more of each. After `Waits`, `Wrong` and want of memory the configuration is as it
+/// was, and so where the thread had ended or stopped before.
 pub fn step_named(
     alloc: Global,
     program: &Program,
@@ -90,6 +90,8 @@ pub fn step_named(
     requires blocks { (plain_config config.old).heap.limit < 4294967295 }
     ensures answers { IfOk result (λ turn. Answers (plain_program program.now) (plain_config config.old) thread turn (plain_config config.new)) }
     ensures kept { OnErr result (plain_config config.new ≡ plain_config config.old) }
+    ensures more_threads { length (plain_config config.new).threads ≤ length (plain_config config.old).threads + 1 }
+    ensures more_blocks { (plain_config config.new).heap.limit ≤ (plain_config config.old).heap.limit + 1 }
 {
     let cells = &mut config.cells;
     let prints = &mut config.prints;
