@@ -1,7 +1,7 @@
 -- Programs of cells: one mutable data type with one constructor of one number, one signature that asks for nothing and
 -- says nothing of its result, and a function `main` of it whose commands go by kinds.
 --
--- That such a program is never wrong, comes to one outcome and has a derivation follows from this alone, however it was
+-- That such a program goes straight on, comes to one outcome and has a derivation follows from this alone, however it was
 -- read.
 use Rattle.std.proofs.Common.{◌≡◌, ℕ, zero, suc, true, List, [], ◌∷◌, None, Some, refl, sym, ap, subst, ◌∙◌, slice_get, codes}
 use Rattle.mz_tree.specs.declared.types.Place.{Place}

@@ -3,7 +3,7 @@ use Rattle.std.proofs.Common.{◌≡◌, ◌⊎◌, inl, inr, ℕ, ◌+◌, List
 use Rattle.std.specs.Str.{bytes_eq}
 use Rattle.mz_tree.specs.Code.{Command, The_command}
 use Rattle.mz_scope.specs.Names.{Names, find}
-use Rattle.mz_cli.proofs.Heaps.{stays}
+use Rattle.mz_cli.proofs.Places.{stays}
 use Rattle.mz_cli.proofs.NameKinds.{NameKind, Cell_kind, Kinds, Gives, AllGive}
 
 -- ---- lists of kinds

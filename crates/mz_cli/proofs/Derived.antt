@@ -25,7 +25,7 @@ use Rattle.mz_deriv.specs.Spelled.{IsNumber, IsWritable, StepSpelled, Spelled, S
 use Rattle.mz_deriv.specs.Walks.{Walks, Walk_ends, Walk_step, Walk_does}
 use Rattle.mz_deriv.specs.Derivable.{FunDerives, Derivable}
 use Rattle.mz_cli.specs.Outcome.{IsDerivable}
-use Rattle.mz_cli.proofs.Heaps.{none_some}
+use Rattle.mz_cli.proofs.Places.{none_some}
 use Rattle.mz_cli.proofs.NumberMaps.{Numbers, put_number, number_here}
 use Rattle.mz_cli.proofs.NameKinds.{NameKind, Int_kind, Unit_kind, Cell_kind, Kinds, Gives, AllGive}
 use Rattle.mz_cli.proofs.FewNames.{few_names}

@@ -10,7 +10,7 @@ use Rattle.mz_tree.specs.Plain.{Atom, Int_type, Unknown_type, Has_atom, Same_ato
 use Rattle.mz_perm.specs.Lists.{In, TakesOne}
 use Rattle.mz_perm.specs.Occurrence.{in_atom, occurs}
 use Rattle.mz_perm.proofs.Lists.{in_end, in_front}
-use Rattle.mz_cli.proofs.Heaps.{some_is, stays, end_here, end_there}
+use Rattle.mz_cli.proofs.Places.{some_is, stays, end_here, end_there}
 use Rattle.mz_cli.proofs.NumberMaps.{Numbers, put_number, number_here, number_there}
 use Rattle.mz_cli.proofs.NameKinds.{NameKind, Int_kind, Unit_kind, Cell_kind, Kinds}
 use Rattle.mz_cli.proofs.Proposed.{cell_atom}

@@ -1,4 +1,4 @@
-mod Heaps
+mod Places
 mod Lines
 mod Passing
 mod Mains
@@ -17,10 +17,9 @@ mod Proposed
 mod Known
 mod FewNames
 mod Derived
-mod Threads
-mod Locks
-mod Runs
-mod Progress
+mod Straight
+mod Standing
+mod BodyRuns
 mod Reading
 mod Ready
 mod Outcomes

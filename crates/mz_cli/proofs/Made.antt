@@ -8,7 +8,7 @@ use Rattle.mz_tree.specs.Code.{Op, Command, The_command, op_of}
 use Rattle.mz_scope.specs.Names.{Names}
 use Rattle.mz_scope.specs.Making.{Made, add_command}
 use Rattle.mz_cli.specs.FirstForm.{is_function}
-use Rattle.mz_cli.proofs.Heaps.{stays}
+use Rattle.mz_cli.proofs.Places.{stays}
 use Rattle.mz_cli.proofs.NameKinds.{NameKind, Int_kind, Unit_kind, Cell_kind, Kinds, Gives}
 use Rattle.mz_cli.proofs.Commands.{at_end, one_longer, Ends, ends_one, Fits, fits_more, fits_bound}
 use Rattle.mz_scoped.proofs.Goes.{Goes, made_in, commanded}

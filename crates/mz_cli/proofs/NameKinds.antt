@@ -1,5 +1,5 @@
 -- What the names of a program of the first form hold: numbers, `()`, and blocks of one number. In a body whose commands
--- go by these kinds no command is ever wrong, and each has its permissions.
+-- go by these kinds each has its permissions.
 use Rattle.std.proofs.Common.{◌≡◌, ℕ, List, [], ◌∷◌, ◌++◌, length, Some, slice_get}
 use Rattle.mz_tree.specs.declared.code.Arith.TheVariants.{Add}
 use Rattle.mz_tree.specs.Code.{Op, Int_op, Unit_op, Arith_op, New_op, Read_op, Write_op, Print_op, Command, The_command, Body, commands_in}

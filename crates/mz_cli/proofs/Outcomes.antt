@@ -4,18 +4,16 @@ use Rattle.std.specs.declared.alloc.Global.{Global}
 use Rattle.mz_base.specs.Causes.{Rose}
 use Rattle.mz_base.specs.Told.{Gains, GainsFront, GivesAll, LosesExactly}
 use Rattle.mz_tree.specs.declared.types.Place.{Place}
-use Rattle.mz_tree.specs.Code.{Body}
 use Rattle.mz_tree.specs.Programs.{Program}
 use Rattle.mz_cli.specs.declared.status.Status.{Status}
 use Rattle.mz_cli.specs.declared.status.Status.TheVariants as status
 use Rattle.mz_cli.specs.declared.run.Ending.TheVariants as ending
-use Rattle.mz_cli.specs.Running.{RunsTo}
-use Rattle.mz_cli.specs.Mains.{IsMain}
 use Rattle.mz_cli.specs.declared.refusal.Refusal.{Refusal}
 use Rattle.mz_cli.specs.declared.refusal.Refusal.TheVariants as refusal
 use Rattle.mz_cli.specs.Refusals.{source_limit, HasFault, Causes, refusal_text}
-use Rattle.mz_cli.specs.Outcome.{IsSched, line, print_lines, stop_line, Answers, AreLeft, Comes, Traffic, Outcome}
-use Rattle.mz_cli.specs.Answered.{IsRead, IsReady, RunAnswers}
+use Rattle.mz_cli.specs.Outcome.{IsSched, line, print_lines, stop_line, Runs, Answers, AreLeft, Comes, Traffic, Outcome}
+use Rattle.mz_cli.specs.Answered.{IsRead, RunsTo, RunAnswers}
+use Rattle.mz_cli.proofs.Ready.{derivable, safe}
 
 -- ---- words
 
@@ -32,23 +30,29 @@ second_word words mode (x, y, both, named) is = ap string_bytes (is ∙ ap (λ (
 
 -- ---- runs
 
-pub ended : (program : Program) (body : Body) (prints text : List ℕ) → IsMain program body → RunsTo body ending.Ended prints → text ≡ print_lines prints → RunAnswers program status.Done text
-ended program body prints text main (w, leads, done, same) written = (body, w, main, leads, done, written ∙ ap print_lines same)
+pub ended : (program : Program) (prints text : List ℕ) → RunsTo program ending.Ended prints → text ≡ print_lines prints → RunAnswers program status.Done text
+ended program prints text (w, leads, done, same) written = (w, leads, done, written ∙ ap print_lines same)
 
-pub halted : (program : Program) (body : Body) (place : Place) (prints text : List ℕ) → IsMain program body → RunsTo body (ending.Stopped place) prints → text ≡ print_lines prints ++ stop_line place → RunAnswers program status.Stopped text
-halted program body place prints text main (w, leads, stops, same) written = (body, w, place, main, leads, stops, written ∙ ap (λ l. print_lines l ++ stop_line place) same)
+pub halted : (program : Program) (place : Place) (prints text : List ℕ) → RunsTo program (ending.Stopped place) prints → text ≡ print_lines prints ++ stop_line place → RunAnswers program status.Stopped text
+halted program place prints text (w, leads, stops, same) written = (w, place, leads, stops, written ∙ ap (λ l. print_lines l ++ stop_line place) same)
+
+-- what is read within the limit runs
+runs : (bytes : List ℕ) (program : Program) → length bytes ≤ source_limit → IsRead bytes program → Runs bytes program
+runs bytes program short read = record {
+  runnable = record { short = short; reads = read.reads; declared = read.declared; first = read.first };
+  derivable = derivable program (bytes, read);
+  safe = safe program (bytes, read);
+}
 
 -- what the run answers is what the bytes answer
-pub run_answers : (bytes : List ℕ) (program : Program) (s : Status) (text : List ℕ) → length bytes ≤ source_limit → IsRead bytes program → IsReady program → RunAnswers program s text → Answers bytes s text
-run_answers bytes program status.Done text short read ready (body, w, main, leads, done, written) =
-    (program, body, w, record { runnable = record { short = short; reads = read.reads; declared = read.declared; first = read.first }; derivable = ready.derivable; main = main; safe = ready.safe body main }, leads, done, written)
-run_answers bytes program status.Stopped text short read ready (body, w, place, main, leads, stops, written) =
-    (program, body, w, place, record { runnable = record { short = short; reads = read.reads; declared = read.declared; first = read.first }; derivable = ready.derivable; main = main; safe = ready.safe body main }, leads, stops, written)
-run_answers bytes program status.Refused text short reads ready h = absurd h
-run_answers bytes program status.Usage text short reads ready h = absurd h
-run_answers bytes program status.ReadFault text short reads ready h = absurd h
-run_answers bytes program status.WriteFault text short reads ready h = absurd h
-run_answers bytes program status.Memory text short reads ready h = absurd h
+pub run_answers : (bytes : List ℕ) (program : Program) (s : Status) (text : List ℕ) → length bytes ≤ source_limit → IsRead bytes program → RunAnswers program s text → Answers bytes s text
+run_answers bytes program status.Done text short read (w, leads, done, written) = (program, w, runs bytes program short read, leads, done, written)
+run_answers bytes program status.Stopped text short read (w, place, leads, stops, written) = (program, w, place, runs bytes program short read, leads, stops, written)
+run_answers bytes program status.Refused text short read h = absurd h
+run_answers bytes program status.Usage text short read h = absurd h
+run_answers bytes program status.ReadFault text short read h = absurd h
+run_answers bytes program status.WriteFault text short read h = absurd h
+run_answers bytes program status.Memory text short read h = absurd h
 
 -- a refusal's cause
 causes : (bytes : List ℕ) (refusal : Refusal) → length bytes ≤ source_limit → HasFault bytes refusal → Causes bytes refusal

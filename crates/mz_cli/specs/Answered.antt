@@ -1,23 +1,23 @@
 -- What the parts of a call answer.
 use Rattle.std.specs.Prelude.{◌≡◌, ℕ, ◌++◌, true, List, Some, None, Result, Ok, Err}
 use Rattle.mz_tree.specs.declared.types.Place.{Place}
-use Rattle.mz_tree.specs.Code.{Body}
 use Rattle.mz_tree.specs.Programs.{Program}
 use Rattle.mz_scope.specs.Reads.{Reads}
 use Rattle.mz_decl.specs.Places.{IsFirst}
 use Rattle.mz_decl.specs.Declarations.{Decls}
 use Rattle.mz_modes.specs.Adopted.{IsNotExclusive, Declared}
+use Rattle.mz_named.specs.Configurations.{Config}
 use Rattle.mz_cli.specs.declared.refusal.Refusal.TheVariants.{NotExclusive}
 use Rattle.mz_cli.specs.declared.refusal.Stop.{Stop}
 use Rattle.mz_cli.specs.declared.refusal.Stop.TheVariants.{Refused, Memory}
+use Rattle.mz_cli.specs.declared.run.Ending.{Ending}
+use Rattle.mz_cli.specs.declared.run.Ending.TheVariants as ending
 use Rattle.mz_cli.specs.declared.status.Status.{Status}
 use Rattle.mz_cli.specs.declared.status.Status.TheVariants as status
-use Rattle.mz_cli.specs.Machine.{Config, NeverWrong, LeadsTo, HasEnded, StopsAt}
-use Rattle.mz_cli.specs.Running.{IsNumbered}
 use Rattle.mz_cli.specs.FirstForm.{is_first_form}
 use Rattle.mz_cli.specs.Refusals.{HasFault, NotDeclared}
-use Rattle.mz_cli.specs.Mains.{IsMain}
-use Rattle.mz_cli.specs.Outcome.{IsDerivable, print_lines, stop_line}
+use Rattle.mz_cli.specs.Running.{LeadsTo, HasEnded, StopsAt}
+use Rattle.mz_cli.specs.Outcome.{print_lines, stop_line}
 
 -- what a step of reading gives; or why the bytes are refused; want of memory says nothing
 abbrev pub GivesOr : {A : Type 0} → List ℕ → (A → Type 0) → Result A Stop → Type 0
@@ -44,18 +44,19 @@ pub record IsRead (bytes : List ℕ) (program : Program) : Type 0 where
   pub declared : Declared program
   pub first : is_first_form reads.surface program ≡ true
 
--- it has a derivation, and a `main`, no run of which is ever wrong, and whose commands are numbered in order
-pub record IsReady (program : Program) : Type 0 where
-  pub body : Body
-  pub main : IsMain program body
-  pub safe : (other : Body) → IsMain program other → NeverWrong other
-  pub numbered : (other : Body) → IsMain program other → IsNumbered other
-  pub derivable : IsDerivable program
+-- it is the program of some text of the first form: so it has a derivation, it is safe, and its `main` goes straight on
+abbrev pub IsReady : Program → Type 0
+IsReady program = (bytes : List ℕ) × IsRead bytes program
 
--- the status and the text of the run of the program's `main`
+-- what a run of the program came to: it ended, or stopped at a command, with these prints
+abbrev pub RunsTo : Program → Ending → List ℕ → Type 0
+RunsTo program ending.Ended prints = (w : Config) × LeadsTo program w × HasEnded w 0 × (prints ≡ w.prints)
+RunsTo program (ending.Stopped place) prints = (w : Config) × LeadsTo program w × StopsAt w 0 place × (prints ≡ w.prints)
+
+-- the status and the text of that run
 abbrev pub RunAnswers : Program → Status → List ℕ → Type 0
 RunAnswers program status.Done text =
-    (body : Body) × (w : Config) × IsMain program body × LeadsTo body w × HasEnded w 0 × (text ≡ print_lines w.prints)
+    (w : Config) × LeadsTo program w × HasEnded w 0 × (text ≡ print_lines w.prints)
 RunAnswers program status.Stopped text =
-    (body : Body) × (w : Config) × (place : Place) × IsMain program body × LeadsTo body w × StopsAt w 0 place × (text ≡ print_lines w.prints ++ stop_line place)
+    (w : Config) × (place : Place) × LeadsTo program w × StopsAt w 0 place × (text ≡ print_lines w.prints ++ stop_line place)
 RunAnswers program _ text = ⊥

@@ -1,4 +1,3 @@
-pub mod Machine
 pub mod Running
 pub mod FirstForm
 pub mod Refusals

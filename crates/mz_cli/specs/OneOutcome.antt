@@ -1,12 +1,11 @@
 -- All runs of a program of the first form come to the same, whatever names their new blocks take.
 use Rattle.std.specs.Prelude.{◌≡◌, ℕ, true, List}
 use Rattle.mz_tree.specs.declared.types.Place.{Place}
-use Rattle.mz_tree.specs.Code.{Body}
 use Rattle.mz_tree.specs.Programs.{Program}
 use Rattle.mz_scope.specs.Reads.{Reads}
-use Rattle.mz_cli.specs.Machine.{Config, LeadsTo, HasEnded, StopsAt}
+use Rattle.mz_named.specs.Configurations.{Config}
 use Rattle.mz_cli.specs.FirstForm.{is_first_form}
-use Rattle.mz_cli.specs.Mains.{IsMain}
+use Rattle.mz_cli.specs.Running.{LeadsTo, HasEnded, StopsAt}
 
 -- thread 0 comes to the same in both
 pub record ComeToOne (w v : Config) : Type 0 where
@@ -17,6 +16,6 @@ pub record ComeToOne (w v : Config) : Type 0 where
   -- where it stops in both, it stops at one place with the same prints
   pub stops : (place other : Place) → StopsAt w 0 place → StopsAt v 0 other → (place ≡ other) × (w.prints ≡ v.prints)
 
--- any two runs of `main` come to the same
+-- any two runs of its thread 0 come to the same
 abbrev pub AtMostOneOutcome : Type 0
-AtMostOneOutcome = (bytes : List ℕ) (program : Program) (body : Body) (w v : Config) (reads : Reads bytes program) → is_first_form reads.surface program ≡ true → IsMain program body → LeadsTo body w → LeadsTo body v → ComeToOne w v
+AtMostOneOutcome = (bytes : List ℕ) (program : Program) (w v : Config) (reads : Reads bytes program) → is_first_form reads.surface program ≡ true → LeadsTo program w → LeadsTo program v → ComeToOne w v

@@ -4,18 +4,18 @@ use Rattle.std.specs.declared.alloc.Global.{Global}
 use Rattle.mz_base.specs.Causes.{Rose}
 use Rattle.mz_base.specs.Told.{Gains, GainsFront}
 use Rattle.mz_tree.specs.declared.types.Place.{Place}
-use Rattle.mz_tree.specs.Code.{Body}
 use Rattle.mz_tree.specs.Programs.{Program}
 use Rattle.mz_scope.specs.Reads.{Reads}
 use Rattle.mz_modes.specs.Adopted.{Declared}
 use Rattle.mz_deriv.specs.Scripts.{Item}
 use Rattle.mz_deriv.specs.Derivable.{Derivable}
+use Rattle.mz_named.specs.Configurations.{Config}
+use Rattle.mz_named.specs.Safety.{NamedSafe}
 use Rattle.mz_cli.specs.declared.status.Status.{Status}
 use Rattle.mz_cli.specs.declared.status.Status.TheVariants.{Done, Refused, Usage, Stopped, ReadFault, WriteFault, Memory}
-use Rattle.mz_cli.specs.Machine.{Config, LeadsTo, HasEnded, StopsAt, NeverWrong}
 use Rattle.mz_cli.specs.declared.refusal.Refusal.{Refusal}
 use Rattle.mz_cli.specs.FirstForm.{is_first_form}
-use Rattle.mz_cli.specs.Mains.{IsMain}
+use Rattle.mz_cli.specs.Running.{LeadsTo, HasEnded, StopsAt}
 use Rattle.mz_cli.specs.Refusals.{source_limit, Causes, refusal_text}
 
 -- ---- words
@@ -53,12 +53,12 @@ pub record IsRunnable (bytes : List ℕ) (program : Program) : Type 0 where
   pub declared : Declared program
   pub first : is_first_form reads.surface program ≡ true
 
--- so they are, and the program has a derivation, and no run of it is ever wrong
-pub record Runs (bytes : List ℕ) (program : Program) (body : Body) : Type 0 where
+-- so they are, and the program has a derivation, and it is safe: no steps of any threads lead from its opening to anything
+-- wrong, or to a race
+pub record Runs (bytes : List ℕ) (program : Program) : Type 0 where
   pub runnable : IsRunnable bytes program
   pub derivable : IsDerivable program
-  pub main : IsMain program body
-  pub safe : NeverWrong body
+  pub safe : NamedSafe program
 
 -- ---- answers
 
@@ -66,11 +66,11 @@ pub record Runs (bytes : List ℕ) (program : Program) (body : Body) : Type 0 wh
 abbrev pub Answers : List ℕ → Status → List ℕ → Type 0
 -- the run ends: its prints
 Answers bytes Done text =
-    (program : Program) × (body : Body) × (w : Config) × Runs bytes program body × LeadsTo body w
+    (program : Program) × (w : Config) × Runs bytes program × LeadsTo program w
     × HasEnded w 0 × (text ≡ print_lines w.prints)
 -- the run stops at an arithmetic command: its prints, and where it stopped
 Answers bytes Stopped text =
-    (program : Program) × (body : Body) × (w : Config) × (place : Place) × Runs bytes program body × LeadsTo body w
+    (program : Program) × (w : Config) × (place : Place) × Runs bytes program × LeadsTo program w
     × StopsAt w 0 place × (text ≡ print_lines w.prints ++ stop_line place)
 -- it is refused: for the first cause that holds, whose line is written
 Answers bytes Refused text = (refusal : Refusal) × Causes bytes refusal × (text ≡ line (refusal_text refusal))

@@ -10,9 +10,9 @@ ghost use Rattle.mz_cli.specs.Refusals.{source_limit, Causes, refusal_text};
 ghost use Rattle.mz_cli.specs.Answered.{IsReady, RunAnswers};
 
 use crate::Status;
-use crate::first::{main_of, read_program};
+use crate::first::read_program;
 use crate::refusal::{Refusal, Stop};
-use crate::run::{Ending, run_body};
+use crate::run::{Ending, run_program};
 use crate::text::{USAGE, printed, refused, stopped};
 use mz_base::{Gate, InputFault, Sink, Source, read_all, write_all};
 use mz_tree::{Memory, Program};
@@ -37,16 +37,13 @@ fn is_sched(words: &[String]) -> bool
     }
 }
 
-// Runs the program's `main`.
+// Runs the program.
 fn run_main(alloc: Global, program: &Program) -> Result<Answer, Memory>
     requires { IsReady (plain_program program.now) }
     ensures { IfOk result (λ answer. RunAnswers (plain_program program.now) answer.status (string_bytes answer.text)) }
 {
-    let Some(body) = main_of(program) else {
-        unreachable!()
-    };
-    let run = run_body(alloc, body)?;
-    let mut text = printed(alloc, run.prints.as_slice())?;
+    let run = run_program(alloc, program)?;
+    let mut text = printed(alloc, run.config.prints())?;
     match run.ending {
         Ending::Ended => Ok(Answer {
             status: Status::Done,
@@ -60,7 +57,6 @@ fn run_main(alloc: Global, program: &Program) -> Result<Answer, Memory>
                 text,
             })
         }
-        Ending::Wrong => unreachable!(),
     }
 }
 

@@ -5,15 +5,14 @@ use Rattle.mz_cli.specs.Answered.{RunAnswers}
 use Rattle.mz_cli.specs.declared.status.Status.TheVariants as status
 use Rattle.mz_cli.specs.Refusals.{refusal_text}
 use Rattle.mz_cli.proofs.Outcomes.{run_answers, refusal_answers, if_ok}
-use Rattle.mz_cli.proofs.Ready.{ready}
 use Rattle.mz_cli.proofs.top.answer_to.Goals as goal
 
 pub run_main-requires : goal.run_main-requires
-run_main-requires c = ready c.args.bytes.now (plain_program c.in-Ok.program) c.in-Ok.ensures
+run_main-requires c = (c.args.bytes.now, c.in-Ok.ensures)
 
 pub returns-in-Ok : goal.returns-in-Ok
 returns-in-Ok c = if_ok (λ answer. RunAnswers (plain_program c.in-Ok.program) answer.status (string_bytes answer.text)) (λ answer. Answers c.args.bytes.now answer.status (string_bytes answer.text))
-    (λ answer run. run_answers c.args.bytes.now (plain_program c.in-Ok.program) answer.status (string_bytes answer.text) c.requires c.in-Ok.ensures (ready c.args.bytes.now (plain_program c.in-Ok.program) c.in-Ok.ensures) run)
+    (λ answer run. run_answers c.args.bytes.now (plain_program c.in-Ok.program) answer.status (string_bytes answer.text) c.requires c.in-Ok.ensures run)
     c.run_main.result c.run_main.ensures
 
 pub returns-in-Err-Refused : goal.returns-in-Err-Refused
