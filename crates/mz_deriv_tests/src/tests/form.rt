@@ -1,0 +1,123 @@
+//! Functions and scripts as flat tables, which a test turns into values. Numbers and names are those of the program's types. Above
+//! each body in the tables stands its source, with the numbers of its lines.
+
+/// A permission.
+#[derive(Clone, Copy)]
+pub enum Held {
+    Int(u32),
+    Unknown(u32),
+    Dynamic(u32),
+    Locked(u32),
+    /// A name, and its data type.
+    Named(u32, u32),
+    /// A name, and its signature.
+    Function(u32, u32),
+    /// A name, and the constructor of its block, which has no field.
+    Empty(u32, u32),
+    /// A name, the constructor of its block, the name of the field, and what the block adopts.
+    Block(u32, u32, u32, Option<u32>),
+    /// A name, the constructor of its block, and the names of the two fields.
+    Pair(u32, u32, u32, u32),
+    /// A lock, and the cell that it guards.
+    Lock(u32, u32),
+    Equal(u32, u32),
+}
+
+/// A view step.
+#[derive(Clone, Copy)]
+pub enum Step {
+    Drop(Held),
+    Copy(Held),
+    /// A name, its data type, and the first name that is made.
+    Unfold(u32, u32, u32),
+    Fold(Held),
+    Rename(Held, u32),
+    Equal(u32, u32),
+    Dynamic(u32),
+    Clause(Held, u32),
+    Unknown(u32),
+    Meet(Held, Held),
+    /// A structural permission, a field, and the name that is put there.
+    Field(Held, u32, u32),
+    /// A permission of a lock, a spot, and the name that is put there.
+    Spot(Held, u32, u32),
+}
+
+/// What the check answers to a script: Ok, or what is refused, with its line and column.
+#[derive(Clone, Copy)]
+pub enum Want {
+    Passes,
+    /// A view step has no instance: its line, its column, and its number.
+    Step(u32, u32, u64),
+    Command(u32, u32),
+    Join(u32, u32),
+}
+
+/// A line of a script, or of a table of scripts.
+#[derive(Clone, Copy)]
+pub enum Line {
+    See(Step),
+    /// A command that uses no permission.
+    Do,
+    /// A command that uses this one.
+    Uses(Held),
+    /// A command with branches, and the permission that it uses: then come its cases, each with its lines and an end, then the
+    /// permissions of the join, and the end of all.
+    Forks(Option<Held>),
+    /// A case, and the first name that it makes, or 0.
+    Case(u32),
+    End,
+    Join(Held),
+    Joined,
+    /// A script with something changed: its name, two numbers, and what is answered. The lines that follow stand in the place of the
+    /// right script's lines from the first number, counted from 0, up to the second, which stays.
+    Row(&'static str, usize, usize, Want),
+}
+
+/// What a command without branches does.
+#[derive(Clone, Copy)]
+pub enum Does {
+    Int(u64),
+    Unit,
+    Fun(u32),
+    Add(u32, u32),
+    /// A constructor without a field, with one, and with two.
+    Empty(u32),
+    New(u32, u32),
+    Pair(u32, u32, u32),
+    /// A block, its constructor, and a field.
+    Read(u32, u32, u32),
+    /// A block, its constructor, a field, and what is put there.
+    Write(u32, u32, u32, u32),
+    /// A block, and its constructors before and after.
+    Retag(u32, u32, u32),
+    /// A callee, and its argument.
+    Call(u32, u32),
+    /// A block, and its adopter.
+    Give(u32, u32),
+    Take(u32, u32),
+    /// The cell that the lock guards.
+    NewLock(u32),
+    Acquire(u32),
+    Release(u32),
+    /// A callee, and its argument.
+    Spawn(u32, u32),
+    Print(u32),
+}
+
+/// A line of a body. A command has the name that it binds, its line and its column. The bodies of its branches stand before it.
+#[derive(Clone, Copy)]
+pub enum Code {
+    Do(u32, u32, u32, Does),
+    /// A branch begins; of a match it is the case of this constructor.
+    Begin(u32),
+    /// A body ends: the name of its value, and the line and column of its closing brace.
+    End(u32, u32, u32),
+    /// A test of this name, which has the last two branches.
+    If(u32, u32, u32, u32),
+    /// A match of this name at a data type, which has all branches that stand before it.
+    Match(u32, u32, u32, u32, u32),
+}
+
+/// A function: its signature, its body, its right script, and rows.
+pub type Table = (u32, &'static [Code], &'static [Line], &'static [Line]);
