@@ -1,0 +1,5 @@
+pub mod Labelled
+pub mod Labelling
+pub mod Asking
+pub mod Edits
+pub mod Found
