@@ -1,0 +1,9 @@
+pub mod Parts
+pub mod Frames
+pub mod Paths
+pub mod Reached
+pub mod Alikeness
+pub mod Meeting
+pub mod Unique
+pub mod Fewer
+pub mod Viewing

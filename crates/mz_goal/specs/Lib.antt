@@ -1,0 +1,5 @@
+pub mod Goals
+pub mod Needs
+pub mod Leads
+pub mod Free
+pub mod Laws
