@@ -67,7 +67,7 @@ view_front D R T l (Meet_step a c) n v =
     let d = on_block c (λ y other zs another. Meets D R b.x b.con b.ys b.clause y other zs another T) b.holds in
     let m = d.holds in
     let V : List (Atom ℕ) = (R ++ l) ++ equations b.ys d.ys in
-    let leads : Meets D (R ++ l) b.x b.con b.ys b.clause d.x d.con d.ys d.clause V = record { same_subject = m.same_subject; same_con = m.same_con; immutable = m.immutable; left = in_front _ R l m.left; right = in_front _ R l m.right; new = refl } in
+    let leads : Meets D (R ++ l) b.x b.con b.ys b.clause d.x d.con d.ys d.clause V = record { same_subject = m.same_subject; same_con = m.same_con; immutable = m.immutable; left = in_front (Has_atom b.x (Block_type b.con b.ys b.clause)) R l m.left; right = in_front (Has_atom d.x (Block_type d.con d.ys d.clause)) R l m.right; new = refl } in
     let inner = of_block c d.x d.con d.ys d.clause (λ y other zs another. Meets D (R ++ l) b.x b.con b.ys b.clause y other zs another V) d.is leads in
     (V, of_block a b.x b.con b.ys b.clause (λ x con ys clause. OnBlock c (λ y other zs another. Meets D (R ++ l) x con ys clause y other zs another V)) b.is inner, beside R T l (equations b.ys d.ys) m.new)
 view_front D R T l (Field_step a i z) n v =

@@ -1,7 +1,6 @@
 pub mod Parts
 pub mod Frames
 pub mod Paths
-pub mod Reached
 pub mod Alikeness
 pub mod Meeting
 pub mod Unique

@@ -1,6 +1,6 @@
 -- A permission that a rule names, seen by its parts.
 use Rattle.std.proofs.Common.{◌≡◌, ℕ, List, Option, refl, sym, subst}
-use Rattle.mz_tree.specs.Plain.{Ty, Atom, Atoms, Int_type, Unknown_type, Dynamic_type, Locked_type, Named_type, Function_type, Block_type, Lock_type, Has_atom, Same_atom}
+use Rattle.mz_tree.specs.Plain.{Atom, Atoms, Int_type, Unknown_type, Dynamic_type, Locked_type, Named_type, Function_type, Block_type, Lock_type, Has_atom, Same_atom}
 use Rattle.mz_view.specs.Rules.{OnBlock, OnLock}
 
 -- a structural permission with what holds of its parts
