@@ -1,0 +1,15 @@
+pub mod Format
+pub mod LineKinds
+pub mod Productions
+pub mod Spelling
+pub mod Casing
+pub mod Spoken
+pub mod Undoing
+pub mod Numerals
+pub mod Naming
+pub mod TypeTexts
+pub mod LineTexts
+pub mod ProgramNames
+pub mod Exact
+pub mod Cuts
+pub mod NoEnds

@@ -1,0 +1,11 @@
+pub mod Pieces
+pub mod Words
+pub mod Lines
+pub mod Cutting
+pub mod Texts
+pub mod Places
+pub mod Reading
+pub mod Fronts
+pub mod ReadWords
+pub mod ReadLines
+pub mod Laws
