@@ -26,14 +26,11 @@ const DECLARED: &str = "what the tables declare is lawful";
 // the command of a branch binds this name
 const BOUND: u32 = 20;
 
-// a table, and what is held against each row of it. `Names` tries the commands that have an instance once more, with each name that
-// stands in the state for their own; `Permissions` tries them with a permission that they don't use, or without the one that
-// they use. Both must leave no instance
+// a table of rows of one kind. Commands that have an instance are tried twice more: with each name that stands in the state for their
+// own, and with a permission that they don't use, or without the one that they use. Both must leave no instance
 #[derive(Clone, Copy)]
 enum Table {
     Commands(&'static [Row]),
-    Names(&'static [Row]),
-    Permissions(&'static [Row]),
     Branches(&'static [Branch]),
     Ends(&'static [End]),
 }
@@ -50,24 +47,6 @@ const PLAIN_TABLES: &[Table] = &[
 const CALL_TABLES: &[Table] = &[
     Table::Commands(calls::PASSING),
     Table::Commands(calls::REFUSED),
-];
-
-const NAME_TABLES: &[Table] = &[
-    Table::Names(plain::MAKING),
-    Table::Names(plain::NUMBERING),
-    Table::Names(blocks::READING),
-    Table::Names(blocks::WRITING),
-    Table::Names(blocks::RETAGGING),
-    Table::Names(calls::PASSING),
-];
-
-const PERMISSION_TABLES: &[Table] = &[
-    Table::Permissions(plain::MAKING),
-    Table::Permissions(plain::NUMBERING),
-    Table::Permissions(blocks::READING),
-    Table::Permissions(blocks::WRITING),
-    Table::Permissions(blocks::RETAGGING),
-    Table::Permissions(calls::PASSING),
 ];
 
 const BRANCH_TABLES: &[Table] = &[
@@ -217,6 +196,24 @@ fn first_misnamed(
     Ok(None)
 }
 
+// the first of the commands that isn't so, that binds a name again, or that follows its rule by another permission
+fn first_row(
+    alloc: Global,
+    decls: &Decls,
+    modes: &Modes,
+    rows: &[Row],
+) -> Result<Option<&'static str>, Memory>
+    requires { AreModes (plain_decls decls.now) modes.now }
+{
+    if let Some(name) = first_command(alloc, decls, modes, rows)? {
+        return Ok(Some(name));
+    }
+    if let Some(name) = first_bound(alloc, decls, modes, rows)? {
+        return Ok(Some(name));
+    }
+    first_misnamed(alloc, decls, modes, rows)
+}
+
 // whether the row's branch begins in the state that is wanted
 fn begins(alloc: Global, decls: &Decls, modes: &Modes, row: Branch) -> Result<bool, Memory>
     requires { AreModes (plain_decls decls.now) modes.now }
@@ -282,9 +279,7 @@ fn first_in(
     requires { AreModes (plain_decls decls.now) modes.now }
 {
     match table {
-        Table::Commands(rows) => first_command(alloc, decls, modes, rows),
-        Table::Names(rows) => first_bound(alloc, decls, modes, rows),
-        Table::Permissions(rows) => first_misnamed(alloc, decls, modes, rows),
+        Table::Commands(rows) => first_row(alloc, decls, modes, rows),
         Table::Branches(rows) => first_branch(alloc, decls, modes, rows),
         Table::Ends(rows) => first_end(alloc, modes, rows),
     }
@@ -370,20 +365,6 @@ fn plain_commands_change_states(rt: HostRuntime) -> Result<(), Fail> {
 fn calls_change_states(rt: HostRuntime) -> Result<(), Fail> {
     let alloc = rt.alloc();
     assert_eq!(rt; first_wrong(alloc, CALL_TABLES)?, None);
-    Ok(())
-}
-
-#[test]
-fn no_name_is_bound_again(rt: HostRuntime) -> Result<(), Fail> {
-    let alloc = rt.alloc();
-    assert_eq!(rt; first_wrong(alloc, NAME_TABLES)?, None);
-    Ok(())
-}
-
-#[test]
-fn a_permission_is_named_just_where_one_is_used(rt: HostRuntime) -> Result<(), Fail> {
-    let alloc = rt.alloc();
-    assert_eq!(rt; first_wrong(alloc, PERMISSION_TABLES)?, None);
     Ok(())
 }
 
