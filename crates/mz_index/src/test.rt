@@ -52,13 +52,7 @@ pub(crate) fn first_from(
 }
 
 // whether the permission is of a name that has the label of this one, and at a type that passes
-fn suits(
-    alloc: Global,
-    links: &[Link],
-    atom: &Atom,
-    name: u32,
-    test: &Test,
-) -> Result<bool, Memory>
+fn suits(alloc: Global, links: &[Link], atom: &Atom, name: u32, test: &Test) -> Result<bool, Memory>
     ensures { (R : List (PlainAtom ℕ)) → AreLabels links.now R → IfOk result (λ it. Says it (InClass R name (Passes R (plain_test test.now)) (plain_atom atom.now))) }
 {
     match atom {

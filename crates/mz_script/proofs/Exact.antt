@@ -66,7 +66,7 @@ module _ (p : Program) where
     cases_spelled (Case_spelled {numbered = numbered} {fresh = fresh} {items = items} {cases = cs} fits h more) =
         (number_spelled numbered fresh fits, all_append (chain_pieces items) (case_pieces cs) (subst (λ (c : ItemChain). AllSpelled (chain_pieces c)) (chain_back items) (pieces_spelled h)) (cases_spelled more))
 
--- ---- functions one by one
+  -- ---- functions one by one
 
   abbrev pub FunsSpelled : List Fun → List (List Item) → Type 0
   FunsSpelled [] [] = Unit {0}
@@ -151,9 +151,14 @@ module _ (p : Program) (S : Scoped p) where
   funs_text (f ∷ funs) [] ts h has says = absurd h
   funs_text (f ∷ funs) (script ∷ scripts) ts (here, h) (one_has, has) says =
       let one : FirstLine p (piece_of p) ts (Fun_line f.name) (body_pieces script ++ fun_pieces funs scripts) = first_line p (piece_of p) ts (Fun_line f.name) (body_pieces script ++ fun_pieces funs scripts) says in
-      let two : Parts p (piece_of p) one.rest (body_pieces script) (fun_pieces funs scripts) = parts p (piece_of p) (body_pieces script) (fun_pieces funs scripts) one.rest one.others in
-      (one.t, one.t ∷ [], one.rest, one.split, (refl, ap (begins_fun f.name) one.says ∙ same_name_is f.name),
-       (script, two.x, two.y, two.split, body_text f.body script two.x here one_has two.front, (scripts, funs_text funs scripts two.y h has two.back, refl)))
+      let two : Parts p (piece_of p) one.rest (body_pieces script) (fun_pieces funs scripts) = parts p (piece_of p) (body_pieces script) (fun_pieces funs scripts) one.rest one.others in (
+        one.t,
+        one.t ∷ [],
+        one.rest,
+        one.split,
+        (refl, ap (begins_fun f.name) one.says ∙ same_name_is f.name),
+        (script, two.x, two.y, two.split, body_text f.body script two.x here one_has two.front, (scripts, funs_text funs scripts two.y h has two.back, refl)),
+      )
 
   -- the lines of a derivation's script spell it
   pub script_spells : (ts : List (List ℕ)) (scripts : List (List Item)) → IsScript p ts scripts → ScriptText (piece_of p) p.funs ts scripts

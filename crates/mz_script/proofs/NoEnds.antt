@@ -53,9 +53,17 @@ fields_end before [] names b h g = tt
 fields_end before (f ∷ fields) [] b h g = tt
 fields_end before (f ∷ fields) (n ∷ names) b h g =
     ends_not before (f.name ++ (codes " = " ++ (name_text n ++ fields_text (codes "; ") fields names))) b
-    (ends_not f.name (codes " = " ++ (name_text n ++ fields_text (codes "; ") fields names)) (h 0 f refl)
-    (refl, (refl, (refl, ends_not (name_text n) (fields_text (codes "; ") fields names) (name_end n (g 0 n refl))
-    (fields_end (codes "; ") fields names (refl, (refl, tt)) (λ k e i. h (suc k) e i) (λ k m i. g (suc k) m i))))))
+    (ends_not f.name (codes " = " ++ (name_text n ++ fields_text (codes "; ") fields names)) (h 0 f refl) (
+      refl,
+      (
+        refl,
+        (
+          refl,
+          ends_not (name_text n) (fields_text (codes "; ") fields names) (name_end n (g 0 n refl))
+              (fields_end (codes "; ") fields names (refl, (refl, tt)) (λ k e i. h (suc k) e i) (λ k m i. g (suc k) m i)),
+        ),
+      ),
+    ))
 
 module _ (p : Program) (S : Scoped p) where
   data_end : (d : ℕ) → d < length p.varieties → NoEnd (data_text p d)
@@ -68,10 +76,15 @@ module _ (p : Program) (S : Scoped p) where
   block_end : (con : ℕ) (names : List ℕ) (adopts : Option ℕ) → HasFields p con (length names) → Each (λ _ n. n < 2 ^ 32) names → IfSome adopts (λ d. d < length p.varieties) → NoEnd (block_text p con names adopts)
   block_end con names adopts has known adopted =
       subst (λ (o : Option Con). NoEnd (con_name o ++ (codes " {" ++ (fields_text (codes " ") (con_fields o) names ++ (codes " }" ++ adopts_text p adopts))))) (sym has.declared)
-      (ends_not has.found.name (codes " {" ++ (fields_text (codes " ") has.found.fields names ++ (codes " }" ++ adopts_text p adopts))) (word_end has.found.name ((own_names p S).con_known con has.found has.declared).3)
-      (refl, (refl, ends_not (fields_text (codes " ") has.found.fields names) (codes " }" ++ adopts_text p adopts)
-      (fields_end (codes " ") has.found.fields names (refl, tt) (λ k f e. (let con_is = S.cons con has.found has.declared in let field_is = con_is.fields k f e in word_end f.name (lower_names f.name field_is.name))) known)
-      (refl, (refl, adopts_end adopts adopted)))))
+      (ends_not has.found.name (codes " {" ++ (fields_text (codes " ") has.found.fields names ++ (codes " }" ++ adopts_text p adopts))) (word_end has.found.name ((own_names p S).con_known con has.found has.declared).3) (
+        refl,
+        (
+          refl,
+          ends_not (fields_text (codes " ") has.found.fields names) (codes " }" ++ adopts_text p adopts)
+              (fields_end (codes " ") has.found.fields names (refl, tt) (λ k f e. (let con_is = S.cons con has.found has.declared in let field_is = con_is.fields k f e in word_end f.name (lower_names f.name field_is.name))) known)
+              (refl, (refl, adopts_end adopts adopted)),
+        ),
+      ))
 
   mutual
     type_end : (t : Ty ℕ) → FitsType p IsNumber t → NoEnd (type_text p t)

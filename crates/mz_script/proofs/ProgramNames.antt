@@ -182,7 +182,7 @@ module _ (p : Program) (S : Scoped p) where
       let word = lower_no_word s.name lower in
       let is : s.name ≡ sig_text p k = sym (sig_is k s it.1) in
       let all : (known_type p s.name ≡ Some (Function_type k)) × (bytes_eq s.name (codes "lock") ≡ false) × (list_all is_name_byte s.name ≡ true) =
-          (known_by s.name None (Some k) (no_word_type s.name word) (sig_no_data k s it.1) (sig_found k s it.1), differ s.name (codes "lock") word.no_lock, lower_names s.name lower) in
+      (known_by s.name None (Some k) (no_word_type s.name word) (sig_no_data k s it.1) (sig_found k s it.1), differ s.name (codes "lock") word.no_lock, lower_names s.name lower) in
       subst (λ (n : List ℕ). (known_type p n ≡ Some (Function_type k)) × (bytes_eq n (codes "lock") ≡ false) × (list_all is_name_byte n ≡ true)) is all
 
   con_all : (k : ℕ) (c : Con) → slice_get p.cons k ≡ Some c → (con_of p c.name ≡ Some k) × (known_type p c.name ≡ None) × (bytes_eq c.name (codes "lock") ≡ false) × (list_all is_name_byte c.name ≡ true)

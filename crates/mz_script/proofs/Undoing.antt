@@ -99,9 +99,10 @@ module _ {A : Type 0} {r : List ℕ → Read ℕ A} {t : A → List ℕ} {L : A 
         let pair = ok_is ((w.first.0, z.first.0), z.first.1) (x, rest) z.goes_on in
         let a_is = ap (λ v. v.0.0) pair in
         let b_is = ap (λ v. v.0.1) pair in
-        let rest_is = ap (λ v. v.1) pair in
-        (one.0 ∙ ap (λ l. t w.first.0 ++ l) two.0 ∙ sym (append_assoc (t w.first.0) (s z.first.0) z.first.1) ∙ ap (λ a. (t a ++ s z.first.0) ++ z.first.1) a_is ∙ ap (λ b. (t x.0 ++ s b) ++ z.first.1) b_is ∙ ap (λ l. (t x.0 ++ s x.1) ++ l) rest_is,
-         (subst L a_is one.1, subst M b_is two.1));
+        let rest_is = ap (λ v. v.1) pair in (
+          one.0 ∙ ap (λ l. t w.first.0 ++ l) two.0 ∙ sym (append_assoc (t w.first.0) (s z.first.0) z.first.1) ∙ ap (λ a. (t a ++ s z.first.0) ++ z.first.1) a_is ∙ ap (λ b. (t x.0 ++ s b) ++ z.first.1) b_is ∙ ap (λ l. (t x.0 ++ s x.1) ++ l) rest_is,
+          (subst L a_is one.1, subst M b_is two.1),
+        );
   }
 
   -- what an image was made of
