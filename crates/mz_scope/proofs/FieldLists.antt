@@ -1,14 +1,9 @@
 -- Lists of fields' names, gone over from their front.
-use Rattle.std.proofs.Common.{◌≡◌, ℕ, suc, ◌+◌, ◌≤◌, List, [], ◌∷◌, length, drop, take, map, Bool, not, ◌&&◌, Some, slice_get, refl, sym, ap, ◌∙◌, subst}
+use Rattle.std.proofs.Common.{◌≡◌, ℕ, suc, ◌≤◌, List, [], ◌∷◌, length, take, map, Some, refl, sym, ap, ◌∙◌, subst}
 use Rattle.std.specs.Prelude.{unwrap_or}
 use Rattle.std.proofs.lemmas.List.{take_all}
 use Rattle.mz_scope.specs.Names.{Names, ConEntry, find}
-use Rattle.mz_scope.specs.Types.{is_among, are_apart, names_in, in_order}
-use Rattle.mz_scope.proofs.Lists.{drop_at}
-
--- the rest from a name on has no name twice if that name isn't among those after it, and they have none
-pub apart_step : (names : List (List ℕ)) (i : ℕ) (text : List ℕ) (b : Bool) → slice_get names i ≡ Some text → b ≡ is_among (drop (i + 1) names) text → are_apart (drop i names) ≡ (not b && are_apart (drop (i + 1) names))
-apart_step names i text b h e = ap are_apart (drop_at names i text h) ∙ ap (λ b. not b && are_apart (drop (i + 1) names)) (sym e)
+use Rattle.mz_scope.specs.Types.{names_in, in_order}
 
 abbrev value_in : Names ℕ → List ℕ → ℕ
 value_in written field = unwrap_or (find written field) 0

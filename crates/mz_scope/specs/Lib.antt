@@ -10,7 +10,6 @@ pub mod Declarations
 pub mod Flattening
 pub mod Resolves
 pub mod View
-pub mod Locals
 pub mod Tables
 pub mod Kinds
 pub mod Lists

@@ -1,17 +1,8 @@
 -- What is declared at the top level, as names with what they stand for. Where a name is declared twice, its first
 -- declaration counts.
-use Rattle.std.specs.Prelude.{ℕ, ◌+◌, List, [], ◌∷◌, ◌++◌, map, length, filter, Option, Some, None, if◌then◌else◌, is_some, slice_get, option_map, option_and_then}
-use Rattle.std.specs.Str.{bytes_eq}
+use Rattle.std.specs.Prelude.{ℕ, ◌+◌, List, [], ◌∷◌, ◌++◌, map, length, filter, Option, Some, None, is_some, slice_get, option_map, option_and_then}
+pub use Rattle.mz_names.specs.Names.{Names, find}
 use Rattle.mz_scope.specs.Syntax.{Word, FieldTree, ConTree, ParamTree, Declaration, Data_declaration, Sig_declaration, Fun_declaration}
-
--- names with what they stand for, the earliest declared first
-abbrev pub Names : Type 0 → Type 0
-Names A = List (List ℕ × A)
-
--- what a name stands for
-abbrev pub find : {A : Type 0} → Names A → List ℕ → Option A
-find [] name = None
-find (one ∷ rest) name = if bytes_eq one.0 name then Some one.1 else find rest name
 
 -- words numbered in order, from n on
 abbrev pub numbered : ℕ → List Word → Names ℕ

@@ -1,7 +1,7 @@
 -- Types and permissions as they are written, and what they come to.
-use Rattle.std.specs.Prelude.{ℕ, ◌&&◌, Bool, true, not, List, [], ◌∷◌, map, Option, Some, None, is_some, unwrap_or, option_map, option_and_then}
-use Rattle.std.specs.List.{list_any, list_all}
-use Rattle.std.specs.Str.{bytes_eq}
+use Rattle.std.specs.Prelude.{ℕ, ◌&&◌, Bool, not, List, [], ◌∷◌, map, Option, Some, None, is_some, unwrap_or, option_map, option_and_then}
+use Rattle.std.specs.List.{list_all}
+pub use Rattle.mz_names.specs.Fields.{is_among, are_apart, names_in}
 use Rattle.mz_tree.specs.declared.types.Place.{Place}
 use Rattle.mz_tree.specs.Plain.{Ty, Atom, Int_type, Unknown_type, Dynamic_type, Locked_type, Named_type, Function_type, Block_type, Lock_type, Has_atom, Same_atom, atoms_of}
 use Rattle.mz_scope.specs.declared.fault.Cause.TheVariants.{Unknown, Shape}
@@ -10,18 +10,6 @@ use Rattle.mz_scope.specs.Names.{Names, find, Globals, TypeEntry, TypeName, Data
 use Rattle.mz_scope.specs.Making.{Part, ◌>>=◌, ◌>>◌, give, add_clause, fault_if, declared_or}
 
 -- ---- lists of fields, in types and in expressions alike
-
--- whether a name is one of these
-abbrev pub is_among : List (List ℕ) → List ℕ → Bool
-is_among names name = list_any (bytes_eq name) names
-
--- whether no name stands twice
-abbrev pub are_apart : List (List ℕ) → Bool
-are_apart [] = true
-are_apart (name ∷ rest) = not (is_among rest name) && are_apart rest
-
-abbrev pub names_in : {A : Type 0} → Names A → List (List ℕ)
-names_in {A = A} names = map (λ (one : List ℕ × A). one.0) names
 
 -- whether the written names are each declared one once
 abbrev pub is_each_once : List (List ℕ) → List (List ℕ) → Bool

@@ -17,7 +17,6 @@ use crate::callees::{given, name_value};
 use crate::fault::Cause;
 use crate::fields::{are_fields, in_order, is_field, number_of};
 use crate::known::con_by_name;
-use crate::locals::Scope;
 use crate::making::Making;
 use crate::names::ConEntry;
 use crate::plain::name_in_expression;
@@ -25,6 +24,7 @@ use crate::select::{field_in, read, select_con};
 use crate::shapes::{differ_in_fields, has_other_count, is_misplaced, lacks_a_case, match_data};
 use crate::types::atoms;
 use crate::words::Source;
+use mz_names::{FieldList, Scope};
 use mz_parse::{
     Block, BlockItem, Case, Comparison, Expression, FieldValue, Primary, Product, Select, Sum,
 };
@@ -257,10 +257,10 @@ fn values(
     con: Option<&ConEntry>,
     fields: &[FieldValue],
     making: &mut Making,
-) -> Result<Scope, Memory>
+) -> Result<FieldList, Memory>
     ensures { Comes as_is (flat_values source.now.globals.now scope.now (option_copied con.entry) (values_of source.now.text.now fields.now)) making.old result making.new }
 {
-    let mut written = Scope::new(source.alloc);
+    let mut written = FieldList::new(source.alloc);
     for i in 0..fields.len() {
         let one = &fields[i];
         is_field(source, con, &one.field, making)?;
@@ -629,7 +629,7 @@ pub(crate) fn block(
 ) -> Result<Body, Memory>
     ensures { Comes plain_body (flat_block source.now.globals.now scope.now (block_tree source.now.text.now block.now)) making.old result making.new }
 {
-    let mut inner = scope.copy(source.alloc)?;
+    let mut inner = scope.copy()?;
     let before = making.begin(source.alloc);
     items(source, &mut inner, block.items.as_slice(), making)?;
     let value = ending(source, &mut inner, &block.last, block.close.place, making)?;

@@ -7,10 +7,10 @@ ghost use Rattle.mz_scope.specs.Kinds.{function_number};
 ghost use Rattle.mz_scope.specs.View.{made_of, Comes, as_is};
 
 use crate::fault::Cause;
-use crate::locals::Scope;
 use crate::making::Making;
 use crate::types::atoms;
 use crate::words::Source;
+use mz_names::Scope;
 use mz_token::Token;
 use mz_tree::{Atoms, Memory, Op};
 use mz_types::SurfaceAtom;
@@ -56,7 +56,7 @@ pub(crate) fn given(
     ensures { Comes plain_atoms (given source.now.globals.now scope.now (atom_trees source.now.text.now giving.now)) making.old result making.new }
 {
     let next = making.next_name()?;
-    let mut inner = scope.copy(source.alloc)?;
+    let mut inner = scope.copy()?;
     inner.push(source.alloc, b"result", next)?;
     atoms(source, &inner, giving, making)
 }

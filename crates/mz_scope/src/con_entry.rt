@@ -1,7 +1,7 @@
 //! Constructors with their fields, and the list of them.
 use crate::entries::Holder;
-use crate::locals::Scope;
 use crate::name_map::NameMap;
+use mz_names::FieldList;
 use mz_tree::Text;
 use sqlite_items::Items;
 use std::marker::Model;
@@ -11,7 +11,7 @@ use std::marker::Model;
 pub(crate) struct ConEntry {
     pub(crate) number: u32,
     pub(crate) variety: u32,
-    pub(crate) fields: Scope,
+    pub(crate) fields: FieldList,
 }
 
 impl Model for ConEntry {

@@ -12,11 +12,11 @@ ghost use Rattle.mz_scope.specs.View.{made_of, Comes, as_is};
 use crate::counts::{after, number, numbers};
 use crate::declares::declares;
 use crate::known::data_by_name;
-use crate::locals::Scope;
 use crate::making::Making;
 use crate::names::Globals;
 use crate::types::typed;
 use crate::words::Source;
+use mz_names::Scope;
 use mz_parse::{Constructor, DataDeclaration, FieldDeclaration};
 use mz_token::Token;
 use mz_tree::{Con, Cons, Field, Fields, Memory, Variety};
@@ -26,7 +26,7 @@ use sqlite_items::Items;
 fn field_scope(source: &Source<'_>, fields: &[FieldDeclaration]) -> Result<Scope, Memory>
     ensures { IfOk result (λ it. it ≡ numbered 0 (map (λ (f : FieldTree). f.name) (map (field_tree source.now.text.now) fields.now))) }
 {
-    let mut scope = Scope::new(source.alloc);
+    let mut scope = Scope::new();
     for i in 0..fields.len() {
         scope.push(source.alloc, source.spelled(&fields[i].name), number(i)?)?;
     }

@@ -1,56 +1,30 @@
 //! Fields with what they are given, in types and in expressions alike: each declared field is written once, in any order,
-//! and what comes of them stands in declared order. Lists of fields are short (a constructor has at most 32), so they
-//! are compared name by name.
+//! and what comes of them stands in declared order. Names are looked up, so that fields by the tens of thousands, which
+//! are refused, take time by their number alone.
 ghost use Rattle.std.specs.Prelude.{◌≡◌, drop, IfOk, None};
 ghost use Rattle.std.specs.Option.{option_copied};
 ghost use Rattle.std.specs.List.{list_all};
-ghost use Rattle.mz_scope.specs.Types.{is_among, are_apart, names_in, is_each_once, number_of, in_order, is_field, are_fields};
+ghost use Rattle.mz_scope.specs.Types.{is_among, names_in, is_each_once, number_of, in_order, is_field, are_fields};
 ghost use Rattle.mz_scope.specs.Trees.{word_of};
 ghost use Rattle.mz_scope.specs.View.{made_of, Comes, as_is};
 
 use crate::fault::Cause;
-use crate::locals::Scope;
 use crate::making::Making;
 use crate::names::ConEntry;
 use crate::words::Source;
+use mz_names::FieldList;
 use mz_token::Token;
 use mz_tree::{Memory, Names, Place};
 use sqlite_items::Items;
 use std::alloc::Global;
 
-// whether a name is one of these, from a place on
-#[tactic(auto, using(crate::proofs::Lists::drop_at))]
-fn is_among(names: &Scope, from: usize, name: &[u8]) -> bool
-    ensures { result ≡ is_among (drop from (names_in names.now)) name.now }
-{
-    for i in from..names.len() {
-        if name == names.text_at(i) {
-            return true;
-        }
-    }
-    false
-}
-
-// whether no name stands twice
-#[tactic(auto, using(crate::proofs::Lists::drop_at))]
-fn are_apart(names: &Scope) -> bool
-    ensures { result ≡ are_apart (names_in names.now) }
-{
-    for i in 0..names.len() {
-        if is_among(names, i + 1, names.text_at(i)) {
-            return false;
-        }
-    }
-    true
-}
-
 // whether each of the names is one of those others
 #[tactic(auto, using(crate::proofs::Lists::drop_at))]
-fn are_all_among(names: &Scope, others: &Scope) -> bool
+fn are_all_among(names: &FieldList, others: &FieldList) -> bool
     ensures { result ≡ list_all (is_among (names_in others.now)) (names_in names.now) }
 {
     for i in 0..names.len() {
-        if !is_among(others, 0, names.text_at(i)) {
+        if !others.has(names.text_at(i)) {
             return false;
         }
     }
@@ -58,10 +32,10 @@ fn are_all_among(names: &Scope, others: &Scope) -> bool
 }
 
 // whether the written names are each declared one once
-fn is_each_once(declared: &Scope, written: &Scope) -> bool
+fn is_each_once(declared: &FieldList, written: &FieldList) -> bool
     ensures { result ≡ is_each_once (names_in declared.now) (names_in written.now) }
 {
-    are_apart(written) && are_all_among(written, declared) && are_all_among(declared, written)
+    written.are_apart() && are_all_among(written, declared) && are_all_among(declared, written)
 }
 
 /// The number of a constructor; one that isn't declared has none of its own.
@@ -75,7 +49,7 @@ pub(crate) fn number_of(con: Option<&ConEntry>) -> u32
 }
 
 // the numbers of names, in order
-fn numbers(alloc: Global, names: &Scope) -> Result<Names, Memory>
+fn numbers(alloc: Global, names: &FieldList) -> Result<Names, Memory>
     ensures { IfOk result (λ it. it ≡ in_order None names.now) }
 {
     let mut numbers = Items::new(alloc);
@@ -89,7 +63,7 @@ fn numbers(alloc: Global, names: &Scope) -> Result<Names, Memory>
 pub(crate) fn in_order(
     alloc: Global,
     con: Option<&ConEntry>,
-    written: &Scope,
+    written: &FieldList,
 ) -> Result<Names, Memory>
     ensures { IfOk result (λ it. it ≡ in_order (option_copied con.entry) written.now) }
 {
@@ -125,7 +99,7 @@ pub(crate) fn is_field(
 /// The written fields must be each declared one once.
 pub(crate) fn are_fields(
     con: Option<&ConEntry>,
-    written: &Scope,
+    written: &FieldList,
     place: Place,
     making: &mut Making,
 ) -> Result<(), Memory>

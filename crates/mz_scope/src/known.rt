@@ -7,10 +7,10 @@ ghost use Rattle.mz_scope.specs.Trees.{word_of};
 ghost use Rattle.mz_scope.specs.View.{made_of, Comes, as_is};
 
 use crate::fault::Cause;
-use crate::locals::Scope;
 use crate::making::Making;
 use crate::names::ConEntry;
 use crate::words::Source;
+use mz_names::Scope;
 use mz_token::Token;
 use mz_tree::Memory;
 

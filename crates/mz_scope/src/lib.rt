@@ -27,7 +27,6 @@ mod functions;
 mod globals;
 mod known;
 mod laws;
-mod locals;
 mod look_ups;
 mod making;
 mod name_map;

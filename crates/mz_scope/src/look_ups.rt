@@ -11,8 +11,8 @@ ghost use Rattle.mz_scope.specs.Tables.{type_entry_of, fun_entry_of, cons_in};
 
 use crate::con_entry::{ConEntry, NamedCon};
 use crate::entries::{FunEntry, TypeEntry, TypeName};
-use crate::locals::Scope;
 use crate::names::Globals;
+use mz_names::FieldList;
 use mz_tree::Ty;
 
 // whether a number is one of these
@@ -56,7 +56,7 @@ impl ConEntry {
     }
 
     /// Its fields.
-    pub(crate) fn fields(&self) -> &Scope
+    pub(crate) fn fields(&self) -> &FieldList
         ensures { result.now ≡ self.now.fields }
     {
         &self.fields

@@ -8,9 +8,9 @@ ghost use Rattle.mz_scope.specs.View.{core_name_of};
 
 use crate::counts::number;
 use crate::entries::{Param, Params};
-use crate::locals::Scope;
 use crate::making::CoreName;
 use crate::names::Globals;
+use mz_names::Scope;
 use mz_tree::{Alike, Memory};
 use sqlite_items::Items;
 use std::alloc::Global;
@@ -31,7 +31,7 @@ impl Globals {
 pub(crate) fn param_scope(alloc: Global, params: &[Param]) -> Result<Scope, Memory>
     ensures { IfOk result (λ it. it ≡ numbered 0 (map param_word params.now)) }
 {
-    let mut scope = Scope::new(alloc);
+    let mut scope = Scope::new();
     for i in 0..params.len() {
         scope.push(alloc, params[i].name.as_slice(), number(i)?)?;
     }

@@ -6,9 +6,9 @@ ghost use Rattle.mz_token.specs.Tokens.{text_of};
 ghost use Rattle.mz_scope.specs.Bodies.{has_other_count, differ_in_fields, is_number_among, match_data, arm_cons, is_misplaced, lacks_a_case, differs};
 ghost use Rattle.mz_scope.specs.Lists.{arms_of};
 
-use crate::locals::Scope;
 use crate::names::ConEntry;
 use crate::words::Source;
+use mz_names::Scope;
 use mz_parse::Case;
 use mz_token::Token;
 use mz_tree::{Memory, Names};

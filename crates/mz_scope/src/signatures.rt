@@ -12,10 +12,10 @@ ghost use Rattle.mz_scope.specs.View.{made_of, Comes};
 use crate::counts::number;
 use crate::declares::{declares, is_other};
 use crate::fault::Cause;
-use crate::locals::Scope;
 use crate::making::Making;
 use crate::types::{atom, atoms, typed};
 use crate::words::Source;
+use mz_names::Scope;
 use mz_parse::{NeedDeclaration, Parameter, SignatureDeclaration};
 use mz_tree::{Memory, Need, Needs, Sig};
 use sqlite_items::Items;
@@ -24,7 +24,7 @@ use sqlite_items::Items;
 fn scope_of(source: &Source<'_>, params: &[Parameter]) -> Result<Scope, Memory>
     ensures { IfOk result (λ it. it ≡ numbered 0 (map (λ (p : ParamTree). p.name) (map (param_tree source.now.text.now) params.now))) }
 {
-    let mut scope = Scope::new(source.alloc);
+    let mut scope = Scope::new();
     for i in 0..params.len() {
         scope.push(source.alloc, source.spelled(&params[i].name), number(i)?)?;
     }

@@ -14,8 +14,8 @@ use crate::con_entry::{ConEntry, ConTable, NamedCon};
 use crate::entries::{
     FunEntry, FunTable, Holder, NamedFun, NamedType, Param, Params, TypeEntry, TypeName, TypeTable,
 };
-use crate::locals::Scope;
 use crate::name_map::NameMap;
+use mz_names::FieldList;
 use mz_parse::{
     Constructor, Declaration, FieldDeclaration, FunctionDeclaration, Parameter, Surface,
 };
@@ -132,10 +132,10 @@ pub(crate) fn type_table(alloc: Global, surface: &Surface) -> Result<TypeTable, 
 // ---- constructors
 
 // the fields of a constructor with their numbers
-fn fields_of(alloc: Global, text: &[u8], fields: &[FieldDeclaration]) -> Result<Scope, Memory>
+fn fields_of(alloc: Global, text: &[u8], fields: &[FieldDeclaration]) -> Result<FieldList, Memory>
     ensures { IfOk result (λ s. s ≡ numbered 0 (map (λ (f : FieldTree). f.name) (map (field_tree text.now) fields.now))) }
 {
-    let mut scope = Scope::new(alloc);
+    let mut scope = FieldList::new(alloc);
     for i in 0..fields.len() {
         scope.push(alloc, spelled(text, &fields[i].name), in_32_bits(i)?)?;
     }
@@ -167,7 +167,7 @@ fn mark(
 // the constructor at a place has these fields
 fn mark_all(
     alloc: Global,
-    fields: &Scope,
+    fields: &FieldList,
     place: u32,
     holders: &mut NameMap<Holder>,
 ) -> Result<(), Memory>

@@ -12,10 +12,10 @@ ghost use Rattle.mz_scope.specs.View.{made_of, Comes, as_is};
 use crate::fault::Cause;
 use crate::fields::{are_fields, in_order, is_field, number_of};
 use crate::known::{con_by_name, data_by_name, name_in};
-use crate::locals::Scope;
 use crate::making::Making;
 use crate::names::ConEntry;
 use crate::words::Source;
+use mz_names::{FieldList, Scope};
 use mz_token::Token;
 use mz_tree::{Atom, Atoms, Clause, Memory, Ty};
 use mz_types::{FieldName, SurfaceAtom, SurfaceType};
@@ -51,10 +51,10 @@ fn field_names(
     con: Option<&ConEntry>,
     fields: &[FieldName],
     making: &mut Making,
-) -> Result<Scope, Memory>
+) -> Result<FieldList, Memory>
     ensures { Comes as_is (flat_field_names source.now.globals.now scope.now (option_copied con.entry) (map (field_name_of source.now.text.now) fields.now)) making.old result making.new }
 {
-    let mut written = Scope::new(source.alloc);
+    let mut written = FieldList::new(source.alloc);
     for i in 0..fields.len() {
         is_field(source, con, &fields[i].field, making)?;
         let number = name_in(source, scope, &fields[i].name, making)?;

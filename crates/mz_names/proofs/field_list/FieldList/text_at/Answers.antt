@@ -1,10 +1,10 @@
 use Rattle.std.proofs.Common.{◌≡◌, length, slice_get, Some, sym, ap, ◌∙◌, subst, ◌<◌}
-use Rattle.mz_scope.specs.Types.{names_in}
-use Rattle.mz_scope.specs.Locals.{locals_in}
-use Rattle.mz_scope.proofs.ScopeNames.{text_there}
-use Rattle.mz_scope.proofs.locals.Scope.text_at.Goals as goal
+use Rattle.mz_names.specs.Fields.{names_in}
+use Rattle.mz_names.specs.NumberedFields.{fields_in}
+use Rattle.mz_names.proofs.FieldLists.{text_there}
+use Rattle.mz_names.proofs.field_list.FieldList.text_at.Goals as goal
 
 pub returns : goal.returns
 returns c =
-    let seen : locals_in c.as_slice.result.now ≡ c.args.self.now = ap locals_in c.as_slice.ensures ∙ c.self.view_is in
+    let seen : fields_in c.as_slice.result.now ≡ c.args.self.now = ap fields_in c.as_slice.ensures ∙ c.self.view_is in
     ap (λ l. slice_get (names_in l) c.args.i) (sym seen) ∙ text_there c.as_slice.result.now c.args.i c.index-as_slice-i.result (subst (λ l. c.args.i < length l) (sym seen) c.requires) ∙ ap Some (sym c.as_slice-2.ensures)
