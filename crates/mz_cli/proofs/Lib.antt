@@ -26,4 +26,8 @@ mod Outcomes
 mod OneOutcomes
 mod Settling
 mod FirstFaults
+mod ReadingSteps
 mod OneRefusals
+mod OneVerifyRefusals
+mod Parts
+mod Verified

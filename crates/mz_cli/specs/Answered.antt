@@ -1,5 +1,13 @@
 -- What the parts of a call answer.
 use Rattle.std.specs.Prelude.{◌≡◌, ℕ, ◌++◌, true, List, Some, None, Result, Ok, Err}
+use Rattle.mz_parse.specs.declared.tree.Surface.{Surface}
+use Rattle.mz_scope.specs.Trees.{tree_of}
+use Rattle.mz_scope.specs.Flattening.{Flattens}
+use Rattle.mz_deriv.specs.declared.fault.DerivFault.TheVariants as fault
+use Rattle.mz_deriv.specs.Scripts.{Item}
+use Rattle.mz_deriv.specs.Derivable.{Derivable}
+use Rattle.mz_deriv.specs.Refused.{RefusedAt}
+use Rattle.mz_script.specs.Texts.{IsScriptText, IsWrongLine}
 use Rattle.mz_tree.specs.declared.types.Place.{Place}
 use Rattle.mz_tree.specs.Programs.{Program}
 use Rattle.mz_scope.specs.Reads.{Reads}
@@ -7,7 +15,7 @@ use Rattle.mz_decl.specs.Places.{IsFirst}
 use Rattle.mz_decl.specs.Declarations.{Decls}
 use Rattle.mz_modes.specs.Adopted.{IsNotExclusive, Declared}
 use Rattle.mz_named.specs.Configurations.{Config}
-use Rattle.mz_cli.specs.declared.refusal.Refusal.TheVariants.{NotExclusive}
+use Rattle.mz_cli.specs.declared.refusal.Refusal.TheVariants.{NotExclusive, WrongLine, BadStep, BadCommand, BadJoin}
 use Rattle.mz_cli.specs.declared.refusal.Stop.{Stop}
 use Rattle.mz_cli.specs.declared.refusal.Stop.TheVariants.{Refused, Memory}
 use Rattle.mz_cli.specs.declared.run.Ending.{Ending}
@@ -15,9 +23,17 @@ use Rattle.mz_cli.specs.declared.run.Ending.TheVariants as ending
 use Rattle.mz_cli.specs.declared.status.Status.{Status}
 use Rattle.mz_cli.specs.declared.status.Status.TheVariants as status
 use Rattle.mz_cli.specs.FirstForm.{is_first_form}
-use Rattle.mz_cli.specs.Refusals.{HasFault, NotDeclared}
+use Rattle.mz_cli.specs.declared.words.Mode.{Mode}
+use Rattle.mz_cli.specs.declared.words.Mode.TheVariants.{Sched, Verify}
+use Rattle.mz_cli.specs.Refusals.{source_limit, HasTree, HasFault, NotDeclared}
+use Rattle.mz_cli.specs.Inputs.{input_limit}
 use Rattle.mz_cli.specs.Running.{LeadsTo, HasEnded, StopsAt}
 use Rattle.mz_cli.specs.Outcome.{print_lines, stop_line}
+
+-- the most bytes that are read in a mode
+abbrev pub limit_of : Mode → ℕ
+limit_of Sched = source_limit
+limit_of Verify = input_limit
 
 -- what a step of reading gives; or why the bytes are refused; want of memory says nothing
 abbrev pub GivesOr : {A : Type 0} → List ℕ → (A → Type 0) → Result A Stop → Type 0
@@ -37,6 +53,28 @@ abbrev pub Declares : Program → Result (Unit {0}) Stop → Type 0
 Declares program (Ok done) = Declared program
 Declares program (Err (Refused refusal)) = NotDeclared program refusal
 Declares program (Err Memory) = Unit {0}
+
+-- the tree of the bytes and its program, which is declared
+pub record IsDeclaredTree (bytes : List ℕ) (surface : Surface) (program : Program) : Type 0 where
+  pub tree : HasTree bytes surface
+  pub flattens : Flattens (tree_of surface) program
+  pub declared : Declared program
+
+-- the scripts are a derivation of the program; or the first point without an instance
+abbrev pub Judges : Program → List (List Item) → Result (Unit {0}) Stop → Type 0
+Judges program scripts (Ok done) = Derivable program scripts
+Judges program scripts (Err (Refused (BadStep place step))) = RefusedAt program scripts (fault.BadStep place step)
+Judges program scripts (Err (Refused (BadCommand place))) = RefusedAt program scripts (fault.BadCommand place)
+Judges program scripts (Err (Refused (BadJoin place))) = RefusedAt program scripts (fault.BadJoin place)
+Judges program scripts (Err (Refused _)) = ⊥
+Judges program scripts (Err Memory) = Unit {0}
+
+-- the bytes are the text of a derivation of the program; or the first line that can't stand where it does, or the first point
+-- without an instance
+abbrev pub JudgesText : Program → List ℕ → Result (Unit {0}) Stop → Type 0
+JudgesText program bytes (Err (Refused (WrongLine number))) = IsWrongLine program bytes number
+JudgesText program bytes (Err Memory) = Unit {0}
+JudgesText program bytes result = (scripts : List (List Item)) × IsScriptText program bytes scripts × Judges program scripts result
 
 -- the program of a text of the first form
 pub record IsRead (bytes : List ℕ) (program : Program) : Type 0 where

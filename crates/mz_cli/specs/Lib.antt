@@ -1,6 +1,9 @@
+pub mod Words
+pub mod Inputs
 pub mod Running
 pub mod FirstForm
 pub mod Refusals
+pub mod Verifying
 pub mod Mains
 pub mod Numbers
 pub mod Outcome

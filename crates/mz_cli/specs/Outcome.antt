@@ -11,18 +11,16 @@ use Rattle.mz_deriv.specs.Scripts.{Item}
 use Rattle.mz_deriv.specs.Derivable.{Derivable}
 use Rattle.mz_named.specs.Configurations.{Config}
 use Rattle.mz_named.specs.Safety.{NamedSafe}
+use Rattle.mz_cli.specs.declared.words.Mode.{Mode}
+use Rattle.mz_cli.specs.declared.words.Mode.TheVariants.{Sched, Verify}
 use Rattle.mz_cli.specs.declared.status.Status.{Status}
 use Rattle.mz_cli.specs.declared.status.Status.TheVariants.{Done, Refused, Usage, Stopped, ReadFault, WriteFault, Memory}
 use Rattle.mz_cli.specs.declared.refusal.Refusal.{Refusal}
 use Rattle.mz_cli.specs.FirstForm.{is_first_form}
 use Rattle.mz_cli.specs.Running.{LeadsTo, HasEnded, StopsAt}
+use Rattle.mz_cli.specs.Words.{Asks, AreTaken}
 use Rattle.mz_cli.specs.Refusals.{source_limit, Causes, refusal_text}
-
--- ---- words
-
--- the program's name and `sched`
-abbrev pub IsSched : List (String Global) → Type 0
-IsSched words = (name : String Global) × (mode : String Global) × (words ≡ name ∷ mode ∷ []) × (string_bytes mode ≡ codes "sched")
+use Rattle.mz_cli.specs.Verifying.{IsVerified, VerifyCauses}
 
 -- ---- texts
 
@@ -39,6 +37,10 @@ usage_line = line (codes "usage: mezzo MODE [--heap N] [--steps N] [--tries N] [
 
 abbrev pub stop_line : Place → List ℕ
 stop_line place = line (codes "stopped: thread 0: arithmetic at " ++ decimal place.line ++ codes ":" ++ decimal place.col)
+
+-- that a derivation is one
+abbrev pub accepted_line : List ℕ
+accepted_line = line (codes "accepted")
 
 -- ---- runs
 
@@ -62,28 +64,32 @@ pub record Runs (bytes : List ℕ) (program : Program) : Type 0 where
 
 -- ---- answers
 
--- the status that the bytes of a source have, and the text that is written with it
-abbrev pub Answers : List ℕ → Status → List ℕ → Type 0
+-- the status that the bytes of an input have in a mode, and the text that is written with it
+abbrev pub Answers : Mode → List ℕ → Status → List ℕ → Type 0
 -- the run ends: its prints
-Answers bytes Done text =
+Answers Sched bytes Done text =
     (program : Program) × (w : Config) × Runs bytes program × LeadsTo program w
     × HasEnded w 0 × (text ≡ print_lines w.prints)
 -- the run stops at an arithmetic command: its prints, and where it stopped
-Answers bytes Stopped text =
+Answers Sched bytes Stopped text =
     (program : Program) × (w : Config) × (place : Place) × Runs bytes program × LeadsTo program w
     × StopsAt w 0 place × (text ≡ print_lines w.prints ++ stop_line place)
--- it is refused: for the first cause that holds, whose line is written
-Answers bytes Refused text = (refusal : Refusal) × Causes bytes refusal × (text ≡ line (refusal_text refusal))
-Answers bytes _ text = ⊥
+-- the source is refused: for the first cause that holds, whose line is written
+Answers Sched bytes Refused text = (refusal : Refusal) × Causes bytes refusal × (text ≡ line (refusal_text refusal))
+-- the script is the text of a derivation of the source's program
+Answers Verify bytes Done text = (program : Program) × (scripts : List (List Item)) × IsVerified bytes program scripts × (text ≡ accepted_line)
+-- the input is refused: for the first cause that holds, whose line is written
+Answers Verify bytes Refused text = (refusal : Refusal) × VerifyCauses bytes refusal × (text ≡ line (refusal_text refusal))
+Answers mode bytes status text = ⊥
 
--- the source's bytes, which are those that it tells, if it tells any
+-- the input's bytes, which are those that it tells, if it tells any
 abbrev pub AreLeft : Option (List ℕ) → List ℕ → Type 0
 AreLeft left bytes = IfSome left (λ told. told ≡ bytes)
 
--- the status and the text that come of the words and of the source's bytes, where nothing fails
+-- the status and the text that come of the words and of the input's bytes, where nothing fails
 abbrev pub Comes : List (String Global) → Option (List ℕ) → Status → List ℕ → Type 0
-Comes words left Usage text = (IsSched words → ⊥) × (text ≡ usage_line)
-Comes words left status text = IsSched words × ((bytes : List ℕ) × AreLeft left bytes × Answers bytes status text)
+Comes words left Usage text = (AreTaken words → ⊥) × (text ≡ usage_line)
+Comes words left status text = (mode : Mode) × Asks words mode × ((bytes : List ℕ) × AreLeft left bytes × Answers mode bytes status text)
 
 -- what a call saw of its source and its sink: each count, and what each tells, before and after it
 pub record Traffic : Type 0 where
@@ -107,10 +113,10 @@ Outcome words t Stopped = Writes words t Stopped
 Outcome words t Refused = Writes words t Refused
 Outcome words t Usage = Writes words t Usage
 -- a read failed, and nothing was written
-Outcome words t ReadFault = IsSched words × Rose t.source_faults t.source_faults_after × (t.written_after ≡ t.written)
+Outcome words t ReadFault = AreTaken words × Rose t.source_faults t.source_faults_after × (t.written_after ≡ t.written)
 -- a write failed or took nothing, and a front of what would have come was written
 Outcome words t WriteFault =
     (Rose t.sink_faults t.sink_faults_after ⊎ Rose t.stalls t.stalls_after)
     × ((status : Status) × (text : List ℕ) × Comes words t.left status text × GainsFront t.written t.written_after text)
 -- want of memory, and nothing was written
-Outcome words t Memory = IsSched words × (t.written_after ≡ t.written)
+Outcome words t Memory = AreTaken words × (t.written_after ≡ t.written)

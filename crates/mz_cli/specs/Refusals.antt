@@ -16,7 +16,7 @@ use Rattle.mz_decl.specs.Places.{IsFirst}
 use Rattle.mz_decl.specs.Declarations.{decls_of, IsImmutableAdopter}
 use Rattle.mz_modes.specs.Adopted.{IsNotExclusive, Declared}
 use Rattle.mz_cli.specs.declared.refusal.Refusal.{Refusal}
-use Rattle.mz_cli.specs.declared.refusal.Refusal.TheVariants.{TooLong, BadByte, BadNumber, NameTooLong, Unexpected, TooDeep, UnknownName, DeclaredTwice, WrongShape, CasesMissing, TooMany, NoMain, ImmutableAdopter, NotExclusive, Unbuilt}
+use Rattle.mz_cli.specs.declared.refusal.Refusal.TheVariants.{TooLong, BadByte, BadNumber, NameTooLong, Unexpected, TooDeep, UnknownName, DeclaredTwice, WrongShape, CasesMissing, TooMany, NoMain, ImmutableAdopter, NotExclusive, Unbuilt, WrongLine, BadStep, BadCommand, BadJoin}
 use Rattle.mz_cli.specs.FirstForm.{is_first_form}
 
 -- the most bytes of a source
@@ -73,6 +73,11 @@ HasFault bytes (ImmutableAdopter place) = (program : Program) × Reads bytes pro
 HasFault bytes (NotExclusive place) = (program : Program) × Reads bytes program × NotDeclared program (NotExclusive place)
 -- the program is declared, and the text isn't of the first form
 HasFault bytes Unbuilt = (program : Program) × (reads : Reads bytes program) × Declared program × (is_first_form reads.surface program ≡ false)
+-- what is wrong with a script is no fault of the source
+HasFault bytes (WrongLine number) = ⊥
+HasFault bytes (BadStep place step) = ⊥
+HasFault bytes (BadCommand place) = ⊥
+HasFault bytes (BadJoin place) = ⊥
 
 -- the first cause for which the bytes are refused
 abbrev pub Causes : List ℕ → Refusal → Type 0
@@ -84,6 +89,13 @@ Causes bytes refusal = (length bytes ≤ source_limit) × HasFault bytes refusal
 -- what is written of a place
 abbrev pub at_place : Place → List ℕ → List ℕ
 at_place place text = codes "refused: " ++ decimal place.line ++ codes ":" ++ decimal place.col ++ codes ": " ++ text
+
+-- what is written of a line of a script
+abbrev pub at_line : ℕ → List ℕ
+at_line number = codes "refused: line " ++ decimal number
+
+abbrev pub bad_step : ℕ → List ℕ
+bad_step step = codes "bad step " ++ decimal step
 
 abbrev pub refusal_text : Refusal → List ℕ
 refusal_text TooLong = codes "refused: too long"
@@ -101,3 +113,7 @@ refusal_text NoMain = codes "refused: 1:1: no main"
 refusal_text (ImmutableAdopter place) = at_place place (codes "immutable adopter")
 refusal_text (NotExclusive place) = at_place place (codes "not exclusive")
 refusal_text Unbuilt = codes "refused: not built yet"
+refusal_text (WrongLine number) = at_line number
+refusal_text (BadStep place step) = at_place place (bad_step step)
+refusal_text (BadCommand place) = at_place place (codes "bad command")
+refusal_text (BadJoin place) = at_place place (codes "bad join")

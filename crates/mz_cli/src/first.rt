@@ -9,7 +9,7 @@ ghost use Rattle.mz_tree.specs.Scoped.{Scoped};
 ghost use Rattle.mz_decl.specs.View.{plain_decls};
 ghost use Rattle.mz_cli.specs.Mains.{IsMain};
 ghost use Rattle.mz_cli.specs.Refusals.{HasTokens, HasTree};
-ghost use Rattle.mz_cli.specs.Answered.{GivesOr, AreExclusive, Declares, IsRead};
+ghost use Rattle.mz_cli.specs.Answered.{GivesOr, AreExclusive, Declares, IsDeclaredTree, IsRead};
 
 use crate::form::is_first_form;
 use crate::refusal::{Refusal, Stop};
@@ -94,10 +94,10 @@ fn declare(alloc: Global, program: &Program) -> Result<(), Stop>
     }
 }
 
-/// The program of a text of the first form, which has fewer than 2^32-1 bytes.
-pub fn read_program(alloc: Global, bytes: &[u8]) -> Result<Program, Stop>
+/// The tree and the program of a text of fewer than 2^32-1 bytes, where that is declared.
+pub(crate) fn read_declared(alloc: Global, bytes: &[u8]) -> Result<(Surface, Program), Stop>
     requires { length bytes.now < 2 ^ 32 - 1 }
-    ensures { GivesOr bytes.now (λ program. IsRead bytes.now (plain_program program)) result }
+    ensures { GivesOr bytes.now (λ found. IsDeclaredTree bytes.now found.0 (plain_program found.1)) result }
 {
     let surface = match surface_of(alloc, bytes) {
         Ok(surface) => surface,
@@ -108,13 +108,26 @@ pub fn read_program(alloc: Global, bytes: &[u8]) -> Result<Program, Stop>
         Err(stop) => return Err(stop),
     };
     match declare(alloc, &program) {
-        Ok(()) => {}
-        Err(stop) => return Err(stop),
+        Ok(()) => Ok((surface, program)),
+        Err(stop) => Err(stop),
     }
-    if !is_first_form(&surface, &program) {
-        return Err(Stop::Refused(Refusal::Unbuilt));
+}
+
+/// The program of a text of the first form, which has fewer than 2^32-1 bytes.
+pub fn read_program(alloc: Global, bytes: &[u8]) -> Result<Program, Stop>
+    requires { length bytes.now < 2 ^ 32 - 1 }
+    ensures { GivesOr bytes.now (λ program. IsRead bytes.now (plain_program program)) result }
+{
+    match read_declared(alloc, bytes) {
+        Ok((surface, program)) => {
+            if is_first_form(&surface, &program) {
+                Ok(program)
+            } else {
+                Err(Stop::Refused(Refusal::Unbuilt))
+            }
+        }
+        Err(stop) => Err(stop),
     }
-    Ok(program)
 }
 
 /// The body of the program's function `main`, the first of that name.

@@ -5,8 +5,8 @@ use thiserror::Error;
 /// Why a source is refused, in the order in which causes are answered.
 #[derive(Clone, Copy, Debug, PartialEq, Eq, Error)]
 pub enum Refusal {
-    /// It has more than 1,048,576 bytes.
-    #[error("source of more than 1048576 bytes")]
+    /// It has more than 1,048,576 bytes; or the whole input, of a source and a script, has more than 67,108,864.
+    #[error("source of more than 1048576 bytes, or an input of more than 67108864")]
     TooLong,
     /// A byte begins no token.
     #[error("no token begins with the byte at {0}")]
@@ -50,6 +50,18 @@ pub enum Refusal {
     /// It isn't of the first form, which is all that is run today.
     #[error("program outside of the first form, which is not run yet")]
     Unbuilt,
+    /// This line of the script, counted from 1, can't stand there, or the script lacks it.
+    #[error("line {0} of the script is missing or cannot stand there")]
+    WrongLine(u32),
+    /// A view step has no instance: where it is made, and its number, counted from 1, since the command or brace before it.
+    #[error("step {1} of the script at {0} is not one of the rules")]
+    BadStep(Place, u64),
+    /// A command, or the end of a body, has no instance.
+    #[error("command at {0} is not one of the rules")]
+    BadCommand(Place),
+    /// The branches don't join in what the script says.
+    #[error("branches at {0} do not join in what the script says")]
+    BadJoin(Place),
 }
 
 /// Why reading a source stops.

@@ -1,7 +1,7 @@
 //! The texts that the program writes.
 ghost use Rattle.std.specs.Prelude.{◌≡◌, ◌++◌, IfOk, string_bytes, codes};
 ghost use Rattle.mz_cli.specs.Outcome.{line, print_lines, stop_line, usage_line};
-ghost use Rattle.mz_cli.specs.Refusals.{at_place, refusal_text};
+ghost use Rattle.mz_cli.specs.Refusals.{at_place, at_line, bad_step, refusal_text};
 
 use crate::refusal::Refusal;
 use mz_tree::{Memory, Place};
@@ -10,6 +10,9 @@ use std::alloc::Global;
 /// The line of a call whose words aren't taken.
 pub const USAGE: &str =
     "usage: mezzo MODE [--heap N] [--steps N] [--tries N] [--workers N] [--quantum N] [--size N]\n";
+
+/// The line of a derivation that is one.
+pub const ACCEPTED: &str = "accepted\n";
 
 /// Each print as its decimal digits and a line end.
 pub fn printed(alloc: Global, prints: &[u64]) -> Result<String, Memory>
@@ -42,6 +45,22 @@ fn at_place(alloc: Global, place: Place, what: &str) -> Result<String, Memory>
     Ok(text)
 }
 
+// What is wrong with a line of a script, as a line.
+fn at_line(alloc: Global, number: u32) -> Result<String, Memory>
+    ensures { IfOk result (λ text. string_bytes text ≡ line (at_line number)) }
+{
+    let text = format!(in alloc; "refused: line {}\n", number)?;
+    Ok(text)
+}
+
+// That a view step has no instance, as a line.
+fn at_step(alloc: Global, place: Place, step: u64) -> Result<String, Memory>
+    ensures { IfOk result (λ text. string_bytes text ≡ line (at_place place (bad_step step))) }
+{
+    let text = format!(in alloc; "refused: {}:{}: bad step {}\n", place.line, place.col, step)?;
+    Ok(text)
+}
+
 /// The line of a refusal.
 pub fn refused(alloc: Global, refusal: Refusal) -> Result<String, Memory>
     ensures { IfOk result (λ text. string_bytes text ≡ line (refusal_text refusal)) }
@@ -62,5 +81,9 @@ pub fn refused(alloc: Global, refusal: Refusal) -> Result<String, Memory>
         Refusal::ImmutableAdopter(place) => at_place(alloc, place, "immutable adopter"),
         Refusal::NotExclusive(place) => at_place(alloc, place, "not exclusive"),
         Refusal::Unbuilt => Ok(String::from_str(alloc, "refused: not built yet\n")?),
+        Refusal::WrongLine(number) => at_line(alloc, number),
+        Refusal::BadStep(place, step) => at_step(alloc, place, step),
+        Refusal::BadCommand(place) => at_place(alloc, place, "bad command"),
+        Refusal::BadJoin(place) => at_place(alloc, place, "bad join"),
     }
 }
