@@ -57,7 +57,10 @@ pub(crate) fn is_declared(alloc: Global, program: &Program) -> bool
     ensures { IsTrue result → Declared (plain_program program.now) }
 {
     match well_formed(alloc, program) {
-        Ok(decls) => modes(alloc, &decls).is_ok(),
+        Ok(decls) => match modes(alloc, &decls) {
+            Ok(_) => true,
+            Err(_) => false,
+        },
         Err(_) => false,
     }
 }
