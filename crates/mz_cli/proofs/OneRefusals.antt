@@ -47,29 +47,29 @@ same_bytes bytes = settles_one _ _ _ _ (size_decided bytes) (λ none. same_text 
 -- ---- each cause of a refusal is an answer of the bytes
 
 -- what is wrong with few enough bytes
-early : (bytes : List ℕ) (refusal : Refusal) → (refusal ≡ Unbuilt → ⊥) → (length bytes ≤ source_limit) × HasFault bytes refusal → OfBytes bytes (Some refusal)
-early bytes refusal late (short, fault) = goes_on tt short (by_refusal OfForm bytes refusal late fault)
+early : (bytes : List ℕ) (refusal : Refusal) → (length bytes ≤ source_limit) × HasFault bytes refusal → OfBytes bytes (Some refusal)
+early bytes refusal (short, fault) = goes_on tt short (by_refusal OfForm bytes refusal fault)
 
 -- whatever the cause is, its refusal is the answer
 settled : (bytes : List ℕ) (refusal : Refusal) → Causes bytes refusal → OfBytes bytes (Some refusal)
 settled bytes TooLong long = stops tt long refl
-settled bytes (BadByte place) cause = early bytes (BadByte place) (λ same. absurd (cc)) cause
-settled bytes (BadNumber place) cause = early bytes (BadNumber place) (λ same. absurd (cc)) cause
-settled bytes (NameTooLong place) cause = early bytes (NameTooLong place) (λ same. absurd (cc)) cause
-settled bytes (Unexpected place) cause = early bytes (Unexpected place) (λ same. absurd (cc)) cause
-settled bytes (TooDeep place) cause = early bytes (TooDeep place) (λ same. absurd (cc)) cause
-settled bytes (UnknownName place) cause = early bytes (UnknownName place) (λ same. absurd (cc)) cause
-settled bytes (DeclaredTwice place) cause = early bytes (DeclaredTwice place) (λ same. absurd (cc)) cause
-settled bytes (WrongShape place) cause = early bytes (WrongShape place) (λ same. absurd (cc)) cause
-settled bytes (CasesMissing place) cause = early bytes (CasesMissing place) (λ same. absurd (cc)) cause
-settled bytes (TooMany place) cause = early bytes (TooMany place) (λ same. absurd (cc)) cause
-settled bytes NoMain cause = early bytes NoMain (λ same. absurd (cc)) cause
-settled bytes (ImmutableAdopter place) cause = early bytes (ImmutableAdopter place) (λ same. absurd (cc)) cause
-settled bytes (NotExclusive place) cause = early bytes (NotExclusive place) (λ same. absurd (cc)) cause
-settled bytes (WrongLine number) cause = early bytes (WrongLine number) (λ same. absurd (cc)) cause
-settled bytes (BadStep place step) cause = early bytes (BadStep place step) (λ same. absurd (cc)) cause
-settled bytes (BadCommand place) cause = early bytes (BadCommand place) (λ same. absurd (cc)) cause
-settled bytes (BadJoin place) cause = early bytes (BadJoin place) (λ same. absurd (cc)) cause
+settled bytes (BadByte place) cause = early bytes (BadByte place) cause
+settled bytes (BadNumber place) cause = early bytes (BadNumber place) cause
+settled bytes (NameTooLong place) cause = early bytes (NameTooLong place) cause
+settled bytes (Unexpected place) cause = early bytes (Unexpected place) cause
+settled bytes (TooDeep place) cause = early bytes (TooDeep place) cause
+settled bytes (UnknownName place) cause = early bytes (UnknownName place) cause
+settled bytes (DeclaredTwice place) cause = early bytes (DeclaredTwice place) cause
+settled bytes (WrongShape place) cause = early bytes (WrongShape place) cause
+settled bytes (CasesMissing place) cause = early bytes (CasesMissing place) cause
+settled bytes (TooMany place) cause = early bytes (TooMany place) cause
+settled bytes NoMain cause = early bytes NoMain cause
+settled bytes (ImmutableAdopter place) cause = early bytes (ImmutableAdopter place) cause
+settled bytes (NotExclusive place) cause = early bytes (NotExclusive place) cause
+settled bytes (WrongLine number) cause = early bytes (WrongLine number) cause
+settled bytes (BadStep place step) cause = early bytes (BadStep place step) cause
+settled bytes (BadCommand place) cause = early bytes (BadCommand place) cause
+settled bytes (BadJoin place) cause = early bytes (BadJoin place) cause
 settled bytes Unbuilt (short, (program, reads, declared, other)) = goes_on tt short (by_declared OfForm bytes program _ reads declared (ap form_answer (sym other)))
 
 -- where they are a text that runs, none is the answer

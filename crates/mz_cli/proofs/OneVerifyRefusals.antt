@@ -93,8 +93,8 @@ same_input bytes = settles_one _ _ _ _ (size_decided bytes) (λ none. same_text 
 -- ---- each cause of a refusal is an answer of the input
 
 -- what is wrong with its source
-early : (bytes : List ℕ) (refusal : Refusal) → (refusal ≡ Unbuilt → ⊥) → IsShort bytes × HasFault (source_part bytes) refusal → OfInput bytes (Some refusal)
-early bytes refusal late (short, fault) = goes_on tt short (by_refusal (OfScript (script_part bytes)) (source_part bytes) refusal late fault)
+early : (bytes : List ℕ) (refusal : Refusal) → IsShort bytes × HasFault (source_part bytes) refusal → OfInput bytes (Some refusal)
+early bytes refusal (short, fault) = goes_on tt short (by_refusal (OfScript (script_part bytes)) (source_part bytes) refusal fault)
 
 -- what comes of its scripts
 scripts_settled : (bytes : List ℕ) (program : Program) (scripts : List (List Item)) (answer : Answer) → IsShort bytes → HasScripts bytes program scripts → OfScripts program scripts answer → OfInput bytes answer
@@ -109,20 +109,20 @@ point_settled bytes f (short, (program, scripts, has, refused)) = scripts_settle
 -- whatever the cause is, its refusal is the answer
 settled : (bytes : List ℕ) (refusal : Refusal) → VerifyCauses bytes refusal → OfInput bytes (Some refusal)
 settled bytes TooLong long = stops tt long refl
-settled bytes (BadByte place) cause = early bytes (BadByte place) (λ same. absurd (cc)) cause
-settled bytes (BadNumber place) cause = early bytes (BadNumber place) (λ same. absurd (cc)) cause
-settled bytes (NameTooLong place) cause = early bytes (NameTooLong place) (λ same. absurd (cc)) cause
-settled bytes (Unexpected place) cause = early bytes (Unexpected place) (λ same. absurd (cc)) cause
-settled bytes (TooDeep place) cause = early bytes (TooDeep place) (λ same. absurd (cc)) cause
-settled bytes (UnknownName place) cause = early bytes (UnknownName place) (λ same. absurd (cc)) cause
-settled bytes (DeclaredTwice place) cause = early bytes (DeclaredTwice place) (λ same. absurd (cc)) cause
-settled bytes (WrongShape place) cause = early bytes (WrongShape place) (λ same. absurd (cc)) cause
-settled bytes (CasesMissing place) cause = early bytes (CasesMissing place) (λ same. absurd (cc)) cause
-settled bytes (TooMany place) cause = early bytes (TooMany place) (λ same. absurd (cc)) cause
-settled bytes NoMain cause = early bytes NoMain (λ same. absurd (cc)) cause
-settled bytes (ImmutableAdopter place) cause = early bytes (ImmutableAdopter place) (λ same. absurd (cc)) cause
-settled bytes (NotExclusive place) cause = early bytes (NotExclusive place) (λ same. absurd (cc)) cause
-settled bytes Unbuilt (short, never) = absurd never
+settled bytes (BadByte place) cause = early bytes (BadByte place) cause
+settled bytes (BadNumber place) cause = early bytes (BadNumber place) cause
+settled bytes (NameTooLong place) cause = early bytes (NameTooLong place) cause
+settled bytes (Unexpected place) cause = early bytes (Unexpected place) cause
+settled bytes (TooDeep place) cause = early bytes (TooDeep place) cause
+settled bytes (UnknownName place) cause = early bytes (UnknownName place) cause
+settled bytes (DeclaredTwice place) cause = early bytes (DeclaredTwice place) cause
+settled bytes (WrongShape place) cause = early bytes (WrongShape place) cause
+settled bytes (CasesMissing place) cause = early bytes (CasesMissing place) cause
+settled bytes (TooMany place) cause = early bytes (TooMany place) cause
+settled bytes NoMain cause = early bytes NoMain cause
+settled bytes (ImmutableAdopter place) cause = early bytes (ImmutableAdopter place) cause
+settled bytes (NotExclusive place) cause = early bytes (NotExclusive place) cause
+settled bytes Unbuilt cause = early bytes Unbuilt cause
 settled bytes (WrongLine number) (short, (program, source, wrong)) =
     goes_on tt short (by_declared (OfScript (script_part bytes)) (source_part bytes) program (Some (WrongLine number)) source.reads source.declared
     (stops number (read_scoped (source_part bytes) program source.reads, wrong) refl))

@@ -1,5 +1,7 @@
 -- How the parts of an input are found: line by line, up to the first head of a script.
-use Rattle.std.proofs.Common.{◌≡◌, ◌==◌, ℕ, zero, suc, ◌+◌, ◌-◌, ◌≤◌, Bool, true, false, List, [], ◌∷◌, ◌++◌, length, take, drop, bytes_eq, refl, sym, ap, subst, ◌∙◌, arith, rules, append-nil, append_assoc, length-append, if◌then◌else◌}
+use Rattle.std.proofs.Common.{◌≡◌, ◌==◌, ℕ, zero, suc, ◌+◌, ◌-◌, ◌<◌, ◌≤◌, Bool, true, false, List, [], ◌∷◌, ◌++◌, length, take, drop, slice_index_or, refl, sym, ap, subst, ◌∙◌, arith, append-nil, append_assoc, length-append, eqb-true, if◌then◌else◌}
+use Rattle.std.specs.Str.{bytes_eq}
+use Rattle.mz_script.proofs.Naming.{same_text}
 use Rattle.mz_script.specs.Cutting.{before_first, lines}
 use Rattle.mz_script.proofs.Cuts.{NoEnd, cut_at}
 use Rattle.mz_cli.specs.Inputs.{head_line, before_head, from_head, text_of, source_part, script_part}
@@ -41,7 +43,7 @@ one_line b (c ∷ front) (e, h) = ap (λ t. if t then (10 ∷ []) ∷ lines (c �
 
 -- the head ends a line
 ends_none : (front : List ℕ) → NoEnd front → bytes_eq front head_line ≡ false
-ends_none front h = not_true (bytes_eq front head_line) (λ same. clash (subst NoEnd (bytes_eq-true front head_line same) h))
+ends_none front h = not_true (bytes_eq front head_line) (λ same. clash (subst NoEnd (same_text front head_line same) h))
   where
     not_true : (t : Bool) → (t ≡ true → ⊥) → t ≡ false
     not_true true never = absurd (never refl)
@@ -70,3 +72,129 @@ pub record Scanned (bytes : List ℕ) (start at : ℕ) : Type 0 where
 
 pub scanned_none : (bytes : List ℕ) → Scanned bytes 0 0
 scanned_none bytes = record { front = []; split = refl; none = tt; long = refl; within = omega arith; source = refl; script = refl }
+
+-- what stands at a place
+here : (bytes : List ℕ) (at : ℕ) → at < length bytes → drop at bytes ≡ slice_index_or bytes at 0 ∷ drop (suc at) bytes
+here [] at inside = absurd (omega (arith, inside))
+here (b ∷ bytes) zero inside = refl
+here (b ∷ bytes) (suc at) inside = here bytes at (omega (arith, inside))
+
+-- a front is split off
+taken : (front rest : List ℕ) → take (length front) (front ++ rest) ≡ front
+taken [] rest = refl
+taken (b ∷ front) rest = ap (λ l. b ∷ l) (taken front rest)
+
+none_more : (front : List ℕ) (b : ℕ) → NoEnd front → (b == 10) ≡ false → NoEnd (front ++ b ∷ [])
+none_more [] b h e = (e, tt)
+none_more (c ∷ front) b (d, h) e = (d, none_more front b h e)
+
+-- a byte that ends no line
+pub scanned_more : (bytes : List ℕ) (start at b : ℕ) → b ≡ slice_index_or bytes at 0 → at < length bytes → (b == 10) ≡ false → Scanned bytes start at → Scanned bytes start (suc at)
+scanned_more bytes start at b is inside other s =
+    let front = s.front in
+    let long = s.long in
+    let next : drop at bytes ≡ b ∷ drop (suc at) bytes = here bytes at inside ∙ ap (λ (c : ℕ). c ∷ drop (suc at) bytes) (sym is) in
+    record {
+      front = front ++ b ∷ [];
+      split = s.split ∙ ap (λ l. front ++ l) next ∙ sym (append_assoc front (b ∷ []) (drop (suc at) bytes));
+      none = none_more front b s.none other;
+      long = omega (arith, long, length-append front (b ∷ []));
+      within = omega (arith, inside);
+      source = s.source;
+      script = s.script;
+    }
+
+-- the line that ends there, and its lines
+line_here : (bytes : List ℕ) (start at b : ℕ) → b ≡ slice_index_or bytes at 0 → at < length bytes → b ≡ 10 → (s : Scanned bytes start at) → drop start bytes ≡ s.front ++ 10 ∷ drop (suc at) bytes
+line_here bytes start at b is inside ends s =
+    let front = s.front in
+    s.split ∙ ap (λ l. front ++ l) (here bytes at inside ∙ ap (λ (c : ℕ). c ∷ drop (suc at) bytes) (sym is ∙ ends))
+
+pub the_line : (bytes : List ℕ) (start at b : ℕ) → b ≡ slice_index_or bytes at 0 → at < length bytes → b ≡ 10 → (s : Scanned bytes start at) → take (suc at - start) (drop start bytes) ≡ s.front ++ 10 ∷ []
+the_line bytes start at b is inside ends s =
+    let front = s.front in
+    let long = s.long in
+    let size : suc at - start ≡ length (front ++ 10 ∷ []) = omega (arith, long, length-append front (10 ∷ [])) in
+    let split : drop start bytes ≡ (front ++ 10 ∷ []) ++ drop (suc at) bytes = line_here bytes start at b is inside ends s ∙ sym (append_assoc front (10 ∷ []) (drop (suc at) bytes)) in
+    ap (λ (n : ℕ). take n (drop start bytes)) size ∙ ap (take (length (front ++ 10 ∷ []))) split ∙ taken (front ++ 10 ∷ []) (drop (suc at) bytes)
+
+lines_here : (bytes : List ℕ) (start at b : ℕ) → b ≡ slice_index_or bytes at 0 → at < length bytes → b ≡ 10 → (s : Scanned bytes start at) → lines (drop start bytes) ≡ (s.front ++ 10 ∷ []) ∷ lines (drop (suc at) bytes)
+lines_here bytes start at b is inside ends s = ap lines (line_here bytes start at b is inside ends s) ∙ cut_at s.front (drop (suc at) bytes) s.none
+
+-- both parts, where the script begins at that place
+pub record Begins (bytes : List ℕ) (at : ℕ) : Type 0 where
+  pub within : at ≤ length bytes
+  pub source : take at bytes ≡ source_part bytes
+  pub script : drop at bytes ≡ script_part bytes
+
+-- it is a head
+pub begins_here : (bytes : List ℕ) (start at b : ℕ) → b ≡ slice_index_or bytes at 0 → at < length bytes → b ≡ 10 → bytes_eq (take (suc at - start) (drop start bytes)) head_line ≡ true → Scanned bytes start at → Begins bytes start
+begins_here bytes start at b is inside ends same s =
+    let line = s.front ++ 10 ∷ [] in
+    let long = s.long in
+    let head : bytes_eq line head_line ≡ true = subst (λ l. bytes_eq l head_line ≡ true) (the_line bytes start at b is inside ends s) same in
+    let both = at_head (drop start bytes) line (drop (suc at) bytes) (lines_here bytes start at b is inside ends s) head in
+    record {
+      within = omega (arith, inside, long);
+      source = sym (s.source ∙ ap (λ l. take start bytes ++ l) both.0 ∙ append-nil (take start bytes));
+      script = sym (s.script ∙ both.1);
+    }
+
+-- what was read before, and a line
+two_takes : (n m : ℕ) (xs : List ℕ) → take n xs ++ take m (drop n xs) ≡ take (n + m) xs
+two_takes zero m xs = refl
+two_takes (suc n) m [] = refl
+two_takes (suc n) m (x ∷ xs) = ap (λ l. x ∷ l) (two_takes n m xs)
+
+joined : (bytes : List ℕ) (start at : ℕ) {front : List ℕ} → start + length front ≡ at → take (suc at - start) (drop start bytes) ≡ front ++ 10 ∷ [] → take start bytes ++ (front ++ 10 ∷ []) ≡ take (suc at) bytes
+joined bytes start at {front} long line =
+    let size : start + (suc at - start) ≡ suc at = omega (arith, long) in
+    ap (λ l. take start bytes ++ l) (sym line) ∙ two_takes start (suc at - start) bytes ∙ ap (λ (n : ℕ). take n bytes) size
+
+-- it is another line
+pub scanned_line : (bytes : List ℕ) (start at b : ℕ) → b ≡ slice_index_or bytes at 0 → at < length bytes → b ≡ 10 → bytes_eq (take (suc at - start) (drop start bytes)) head_line ≡ false → Scanned bytes start at → Scanned bytes (suc at) (suc at)
+scanned_line bytes start at b is inside ends differ s =
+    let front = s.front in
+    let line = front ++ 10 ∷ [] in
+    let other : bytes_eq line head_line ≡ false = subst (λ l. bytes_eq l head_line ≡ false) (the_line bytes start at b is inside ends s) differ in
+    let both = at_line (drop start bytes) line (drop (suc at) bytes) (lines_here bytes start at b is inside ends s) other in
+    record {
+      front = [];
+      split = refl;
+      none = tt;
+      long = omega arith;
+      within = omega (arith, inside);
+      source = s.source ∙ ap (λ l. take start bytes ++ l) both.0 ∙ sym (append_assoc (take start bytes) line (source_part (drop (suc at) bytes))) ∙ ap (λ l. l ++ source_part (drop (suc at) bytes)) (joined bytes start at s.long (the_line bytes start at b is inside ends s));
+      script = s.script ∙ both.1;
+    }
+
+nothing : (bytes : List ℕ) (at : ℕ) → at ≡ length bytes → drop at bytes ≡ []
+nothing [] zero last = refl
+nothing [] (suc at) last = absurd (omega (arith, last))
+nothing (b ∷ bytes) zero last = absurd (omega (arith, last))
+nothing (b ∷ bytes) (suc at) last = nothing bytes at (omega (arith, last))
+
+all : (bytes : List ℕ) (at : ℕ) → at ≡ length bytes → take at bytes ≡ bytes
+all [] zero last = refl
+all [] (suc at) last = absurd (omega (arith, last))
+all (b ∷ bytes) zero last = absurd (omega (arith, last))
+all (b ∷ bytes) (suc at) last = ap (λ l. b ∷ l) (all bytes at (omega (arith, last)))
+
+whole : (n : ℕ) (bytes : List ℕ) → take n bytes ++ drop n bytes ≡ bytes
+whole zero bytes = refl
+whole (suc n) [] = refl
+whole (suc n) (b ∷ bytes) = ap (λ l. b ∷ l) (whole n bytes)
+
+-- no line is left
+pub begins_never : (bytes : List ℕ) (start at : ℕ) → at ≡ length bytes → Scanned bytes start at → Begins bytes at
+begins_never bytes start at last s =
+    let front = s.front in
+    let left : drop start bytes ≡ front = s.split ∙ ap (λ l. front ++ l) (nothing bytes at last) ∙ append-nil front in
+    let both = at_last front s.none in
+    let source : source_part bytes ≡ bytes = s.source ∙ ap (λ l. take start bytes ++ l) (ap source_part left ∙ both.0 ∙ sym left) ∙ whole start bytes in
+    let script : script_part bytes ≡ [] = s.script ∙ ap script_part left ∙ both.1 in
+    record {
+      within = s.within;
+      source = all bytes at last ∙ sym source;
+      script = nothing bytes at last ∙ sym script;
+    }

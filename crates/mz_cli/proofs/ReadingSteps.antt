@@ -179,23 +179,23 @@ module _ (Last : Surface → Program → Answer → Type 0) where
   by_declared bytes program answer reads declared last = by_program bytes program answer reads (goes_on tt declared.on_mutable (goes_on tt declared.exclusive last))
 
   -- whatever is wrong with the text up to there, its refusal is the answer
-  pub by_refusal : (bytes : List ℕ) (refusal : Refusal) → (refusal ≡ Unbuilt → ⊥) → HasFault bytes refusal → OfText bytes (Some refusal)
-  by_refusal bytes TooLong late fault = absurd fault
-  by_refusal bytes (BadByte place) late fault = stops (lex.Byte place) fault refl
-  by_refusal bytes (BadNumber place) late fault = stops (lex.Number place) fault refl
-  by_refusal bytes (NameTooLong place) late fault = stops (lex.NameTooLong place) fault refl
-  by_refusal bytes (Unexpected place) late (tokens, has, fault) = by_tokens bytes tokens _ has (stops (syntax_fault.Unexpected place) fault refl)
-  by_refusal bytes (TooDeep place) late (tokens, has, fault) = by_tokens bytes tokens _ has (stops (syntax_fault.TooDeep place) fault refl)
-  by_refusal bytes (UnknownName place) late wrong = by_fault bytes wrong.surface _ wrong.tree wrong.resolves
-  by_refusal bytes (DeclaredTwice place) late wrong = by_fault bytes wrong.surface _ wrong.tree wrong.resolves
-  by_refusal bytes (WrongShape place) late wrong = by_fault bytes wrong.surface _ wrong.tree wrong.resolves
-  by_refusal bytes (CasesMissing place) late wrong = by_fault bytes wrong.surface _ wrong.tree wrong.resolves
-  by_refusal bytes (TooMany place) late wrong = by_fault bytes wrong.surface _ wrong.tree wrong.resolves
-  by_refusal bytes NoMain late wrong = by_tree bytes wrong.surface _ wrong.tree (goes_on tt wrong.resolves.0 (stops tt wrong.resolves.1 refl))
-  by_refusal bytes (ImmutableAdopter place) late (program, reads, first) = by_program bytes program _ reads (stops place first refl)
-  by_refusal bytes (NotExclusive place) late (program, reads, (none, first)) = by_program bytes program _ reads (goes_on tt none (stops place first refl))
-  by_refusal bytes Unbuilt late fault = absurd (late refl)
-  by_refusal bytes (WrongLine number) late fault = absurd fault
-  by_refusal bytes (BadStep place step) late fault = absurd fault
-  by_refusal bytes (BadCommand place) late fault = absurd fault
-  by_refusal bytes (BadJoin place) late fault = absurd fault
+  pub by_refusal : (bytes : List ℕ) (refusal : Refusal) → HasFault bytes refusal → OfText bytes (Some refusal)
+  by_refusal bytes TooLong fault = absurd fault
+  by_refusal bytes (BadByte place) fault = stops (lex.Byte place) fault refl
+  by_refusal bytes (BadNumber place) fault = stops (lex.Number place) fault refl
+  by_refusal bytes (NameTooLong place) fault = stops (lex.NameTooLong place) fault refl
+  by_refusal bytes (Unexpected place) (tokens, has, fault) = by_tokens bytes tokens _ has (stops (syntax_fault.Unexpected place) fault refl)
+  by_refusal bytes (TooDeep place) (tokens, has, fault) = by_tokens bytes tokens _ has (stops (syntax_fault.TooDeep place) fault refl)
+  by_refusal bytes (UnknownName place) wrong = by_fault bytes wrong.surface _ wrong.tree wrong.resolves
+  by_refusal bytes (DeclaredTwice place) wrong = by_fault bytes wrong.surface _ wrong.tree wrong.resolves
+  by_refusal bytes (WrongShape place) wrong = by_fault bytes wrong.surface _ wrong.tree wrong.resolves
+  by_refusal bytes (CasesMissing place) wrong = by_fault bytes wrong.surface _ wrong.tree wrong.resolves
+  by_refusal bytes (TooMany place) wrong = by_fault bytes wrong.surface _ wrong.tree wrong.resolves
+  by_refusal bytes NoMain wrong = by_tree bytes wrong.surface _ wrong.tree (goes_on tt wrong.resolves.0 (stops tt wrong.resolves.1 refl))
+  by_refusal bytes (ImmutableAdopter place) (program, reads, first) = by_program bytes program _ reads (stops place first refl)
+  by_refusal bytes (NotExclusive place) (program, reads, (none, first)) = by_program bytes program _ reads (goes_on tt none (stops place first refl))
+  by_refusal bytes Unbuilt fault = absurd fault
+  by_refusal bytes (WrongLine number) fault = absurd fault
+  by_refusal bytes (BadStep place step) fault = absurd fault
+  by_refusal bytes (BadCommand place) fault = absurd fault
+  by_refusal bytes (BadJoin place) fault = absurd fault

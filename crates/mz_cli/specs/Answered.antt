@@ -15,6 +15,7 @@ use Rattle.mz_decl.specs.Places.{IsFirst}
 use Rattle.mz_decl.specs.Declarations.{Decls}
 use Rattle.mz_modes.specs.Adopted.{IsNotExclusive, Declared}
 use Rattle.mz_named.specs.Configurations.{Config}
+use Rattle.mz_cli.specs.declared.refusal.Refusal.{Refusal}
 use Rattle.mz_cli.specs.declared.refusal.Refusal.TheVariants.{NotExclusive, WrongLine, BadStep, BadCommand, BadJoin}
 use Rattle.mz_cli.specs.declared.refusal.Stop.{Stop}
 use Rattle.mz_cli.specs.declared.refusal.Stop.TheVariants.{Refused, Memory}
@@ -25,7 +26,7 @@ use Rattle.mz_cli.specs.declared.status.Status.TheVariants as status
 use Rattle.mz_cli.specs.FirstForm.{is_first_form}
 use Rattle.mz_cli.specs.declared.words.Mode.{Mode}
 use Rattle.mz_cli.specs.declared.words.Mode.TheVariants.{Sched, Verify}
-use Rattle.mz_cli.specs.Refusals.{source_limit, HasTree, HasFault, NotDeclared}
+use Rattle.mz_cli.specs.Refusals.{source_limit, HasTree, NotDeclared}
 use Rattle.mz_cli.specs.Inputs.{input_limit}
 use Rattle.mz_cli.specs.Running.{LeadsTo, HasEnded, StopsAt}
 use Rattle.mz_cli.specs.Outcome.{print_lines, stop_line}
@@ -35,11 +36,11 @@ abbrev pub limit_of : Mode → ℕ
 limit_of Sched = source_limit
 limit_of Verify = input_limit
 
--- what a step of reading gives; or why the bytes are refused; want of memory says nothing
-abbrev pub GivesOr : {A : Type 0} → List ℕ → (A → Type 0) → Result A Stop → Type 0
-GivesOr bytes Is (Ok a) = Is a
-GivesOr bytes Is (Err (Refused refusal)) = HasFault bytes refusal
-GivesOr bytes Is (Err Memory) = Unit {0}
+-- what a step of reading gives; or the fault for which it refuses; want of memory says nothing
+abbrev pub GivesOr : {A : Type 0} → (Refusal → Type 0) → (A → Type 0) → Result A Stop → Type 0
+GivesOr Fault Is (Ok a) = Is a
+GivesOr Fault Is (Err (Refused refusal)) = Fault refusal
+GivesOr Fault Is (Err Memory) = Unit {0}
 
 -- each `adopts` of the declarations names a mutable data type; or the first place of one that doesn't
 abbrev pub AreExclusive : Decls → Result (Unit {0}) Stop → Type 0

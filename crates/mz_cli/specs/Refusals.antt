@@ -71,18 +71,23 @@ HasFault bytes NoMain = IsScopeFault bytes scope.NoMain
 -- the program isn't declared
 HasFault bytes (ImmutableAdopter place) = (program : Program) × Reads bytes program × NotDeclared program (ImmutableAdopter place)
 HasFault bytes (NotExclusive place) = (program : Program) × Reads bytes program × NotDeclared program (NotExclusive place)
--- the program is declared, and the text isn't of the first form
-HasFault bytes Unbuilt = (program : Program) × (reads : Reads bytes program) × Declared program × (is_first_form reads.surface program ≡ false)
--- what is wrong with a script is no fault of the source
+-- what comes behind that is no fault of the text
+HasFault bytes Unbuilt = ⊥
 HasFault bytes (WrongLine number) = ⊥
 HasFault bytes (BadStep place step) = ⊥
 HasFault bytes (BadCommand place) = ⊥
 HasFault bytes (BadJoin place) = ⊥
 
+-- what is wrong with bytes that are to be run and aren't too many
+abbrev pub RunFault : List ℕ → Refusal → Type 0
+-- they are the text of a declared program, and not of the first form
+RunFault bytes Unbuilt = (program : Program) × (reads : Reads bytes program) × Declared program × (is_first_form reads.surface program ≡ false)
+RunFault bytes refusal = HasFault bytes refusal
+
 -- the first cause for which the bytes are refused
 abbrev pub Causes : List ℕ → Refusal → Type 0
 Causes bytes TooLong = source_limit < length bytes
-Causes bytes refusal = (length bytes ≤ source_limit) × HasFault bytes refusal
+Causes bytes refusal = (length bytes ≤ source_limit) × RunFault bytes refusal
 
 -- ---- texts
 

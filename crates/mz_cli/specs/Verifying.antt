@@ -11,7 +11,7 @@ use Rattle.mz_deriv.specs.Derivable.{Derivable}
 use Rattle.mz_deriv.specs.Refused.{RefusedAt}
 use Rattle.mz_script.specs.Texts.{IsScriptText, IsWrongLine}
 use Rattle.mz_cli.specs.declared.refusal.Refusal.{Refusal}
-use Rattle.mz_cli.specs.declared.refusal.Refusal.TheVariants.{TooLong, Unbuilt, WrongLine, BadStep, BadCommand, BadJoin}
+use Rattle.mz_cli.specs.declared.refusal.Refusal.TheVariants.{TooLong, WrongLine, BadStep, BadCommand, BadJoin}
 use Rattle.mz_cli.specs.declared.refusal.Stop.{Stop}
 use Rattle.mz_cli.specs.declared.refusal.Stop.TheVariants.{Refused, Memory}
 use Rattle.mz_cli.specs.Refusals.{source_limit, HasFault}
@@ -49,8 +49,6 @@ ScriptFault bytes (WrongLine number) = (program : Program) × IsDeclared (source
 ScriptFault bytes (BadStep place step) = IsNone bytes (fault.BadStep place step)
 ScriptFault bytes (BadCommand place) = IsNone bytes (fault.BadCommand place)
 ScriptFault bytes (BadJoin place) = IsNone bytes (fault.BadJoin place)
--- the whole language is verified
-ScriptFault bytes Unbuilt = ⊥
 -- the source is no text of a declared program
 ScriptFault bytes refusal = HasFault (source_part bytes) refusal
 

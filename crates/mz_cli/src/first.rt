@@ -8,7 +8,7 @@ ghost use Rattle.mz_scope.specs.Flattening.{Flattens};
 ghost use Rattle.mz_tree.specs.Scoped.{Scoped};
 ghost use Rattle.mz_decl.specs.View.{plain_decls};
 ghost use Rattle.mz_cli.specs.Mains.{IsMain};
-ghost use Rattle.mz_cli.specs.Refusals.{HasTokens, HasTree};
+ghost use Rattle.mz_cli.specs.Refusals.{HasTokens, HasTree, HasFault, RunFault};
 ghost use Rattle.mz_cli.specs.Answered.{GivesOr, AreExclusive, Declares, IsDeclaredTree, IsRead};
 
 use crate::form::is_first_form;
@@ -24,7 +24,7 @@ use std::alloc::Global;
 // The bytes' tokens.
 fn tokens_of(alloc: Global, bytes: &[u8]) -> Result<Tokens, Stop>
     requires { length bytes.now < 2 ^ 32 - 1 }
-    ensures { GivesOr bytes.now (λ found. HasTokens bytes.now found) result }
+    ensures { GivesOr (HasFault bytes.now) (λ found. HasTokens bytes.now found) result }
 {
     match tokens(alloc, bytes) {
         Ok(found) => Ok(found),
@@ -38,7 +38,7 @@ fn tokens_of(alloc: Global, bytes: &[u8]) -> Result<Tokens, Stop>
 // The tree of the bytes' tokens.
 fn surface_of(alloc: Global, bytes: &[u8]) -> Result<Surface, Stop>
     requires { length bytes.now < 2 ^ 32 - 1 }
-    ensures { GivesOr bytes.now (λ surface. HasTree bytes.now surface) result }
+    ensures { GivesOr (HasFault bytes.now) (λ surface. HasTree bytes.now surface) result }
 {
     let found = match tokens_of(alloc, bytes) {
         Ok(found) => found,
@@ -55,7 +55,7 @@ fn surface_of(alloc: Global, bytes: &[u8]) -> Result<Surface, Stop>
 // The tree's program.
 fn program_of(alloc: Global, surface: &Surface) -> Result<Program, Stop>
     requires { HasTree surface.now.text surface.now }
-    ensures { GivesOr surface.now.text (λ program. Flattens (tree_of surface.now) (plain_program program)) result }
+    ensures { GivesOr (HasFault surface.now.text) (λ program. Flattens (tree_of surface.now) (plain_program program)) result }
 {
     match resolve(alloc, surface) {
         Ok(program) => Ok(program),
@@ -97,7 +97,7 @@ fn declare(alloc: Global, program: &Program) -> Result<(), Stop>
 /// The tree and the program of a text of fewer than 2^32-1 bytes, where that is declared.
 pub(crate) fn read_declared(alloc: Global, bytes: &[u8]) -> Result<(Surface, Program), Stop>
     requires { length bytes.now < 2 ^ 32 - 1 }
-    ensures { GivesOr bytes.now (λ found. IsDeclaredTree bytes.now found.0 (plain_program found.1)) result }
+    ensures { GivesOr (HasFault bytes.now) (λ found. IsDeclaredTree bytes.now found.0 (plain_program found.1)) result }
 {
     let surface = match surface_of(alloc, bytes) {
         Ok(surface) => surface,
@@ -116,7 +116,7 @@ pub(crate) fn read_declared(alloc: Global, bytes: &[u8]) -> Result<(Surface, Pro
 /// The program of a text of the first form, which has fewer than 2^32-1 bytes.
 pub fn read_program(alloc: Global, bytes: &[u8]) -> Result<Program, Stop>
     requires { length bytes.now < 2 ^ 32 - 1 }
-    ensures { GivesOr bytes.now (λ program. IsRead bytes.now (plain_program program)) result }
+    ensures { GivesOr (RunFault bytes.now) (λ program. IsRead bytes.now (plain_program program)) result }
 {
     match read_declared(alloc, bytes) {
         Ok((surface, program)) => {
