@@ -1,6 +1,6 @@
 -- How a text is read, step by step, up to a declared program; each step refuses the text or goes on, and what comes behind them
 -- is left open. Where that has one answer, so has the text.
-use Rattle.std.proofs.Common.{◌≡◌, ℕ, zero, suc, true, false, List, [], Some, None, refl, sym, ap, ap₂, ◌∙◌}
+use Rattle.std.proofs.Common.{◌≡◌, ℕ, zero, suc, true, false, List, [], Option, Some, None, refl, sym, ap, ap₂, ◌∙◌}
 use Rattle.mz_tree.specs.declared.types.Place.{Place}
 use Rattle.mz_tree.specs.Programs.{Program}
 use Rattle.mz_token.specs.declared.token.Token.{Token}
