@@ -14,11 +14,11 @@ text_before b (line ∷ rest) = refl
 
 text_lines : (bytes : List ℕ) → text_of (lines bytes) ≡ bytes
 text_lines [] = refl
-text_lines (b ∷ bytes) = by (b == 10) refl
+text_lines (b ∷ bytes) = by_end (b == 10) refl (text_lines bytes)
   where
-    by : (t : Bool) → (b == 10) ≡ t → text_of (if t then (10 ∷ []) ∷ lines bytes else before_first b (lines bytes)) ≡ b ∷ bytes
-    by true is = ap (λ n. n ∷ text_of (lines bytes)) (sym (eqb-true b 10 is)) ∙ ap (λ l. b ∷ l) (text_lines bytes)
-    by false is = text_before b (lines bytes) ∙ ap (λ l. b ∷ l) (text_lines bytes)
+    by_end : (t : Bool) → (b == 10) ≡ t → text_of (lines bytes) ≡ bytes → text_of (if t then (10 ∷ []) ∷ lines bytes else before_first b (lines bytes)) ≡ b ∷ bytes
+    by_end true is rest = ap (λ (n : ℕ). n ∷ text_of (lines bytes)) (sym (eqb-true b 10 is)) ∙ ap (λ l. b ∷ l) rest
+    by_end false is rest = text_before b (lines bytes) ∙ ap (λ l. b ∷ l) rest
 
 -- ---- what one line comes to
 
@@ -49,7 +49,7 @@ ends_none front h = not_true (bytes_eq front head_line) (λ same. clash (subst N
     not_true true never = absurd (never refl)
     not_true false never = refl
     clash : NoEnd head_line → ⊥
-    clash (a1, a2, a3, a4, a5, a6, a7, a8, a9, a10, a11, a12, a13, last, none) = let wrong : true ≡ false = last in absurd (cc)
+    clash (a1, (a2, (a3, (a4, (a5, (a6, (a7, (a8, (a9, (a10, (a11, (a12, (a13, (last, done)))))))))))))) = let wrong : true ≡ false = last in absurd (cc)
 
 pub at_last : (front : List ℕ) → NoEnd front → (source_part front ≡ front) × (script_part front ≡ [])
 at_last [] h = (refl, refl)
@@ -142,12 +142,12 @@ begins_here bytes start at b is inside ends same s =
 
 -- what was read before, and a line
 two_takes : (n m : ℕ) (xs : List ℕ) → take n xs ++ take m (drop n xs) ≡ take (n + m) xs
-two_takes zero m xs = refl
+two_takes zero m xs = ap (λ (k : ℕ). take k xs) (omega arith)
 two_takes (suc n) m [] = refl
 two_takes (suc n) m (x ∷ xs) = ap (λ l. x ∷ l) (two_takes n m xs)
 
-joined : (bytes : List ℕ) (start at : ℕ) {front : List ℕ} → start + length front ≡ at → take (suc at - start) (drop start bytes) ≡ front ++ 10 ∷ [] → take start bytes ++ (front ++ 10 ∷ []) ≡ take (suc at) bytes
-joined bytes start at {front} long line =
+joined : (bytes : List ℕ) (start at : ℕ) (front : List ℕ) → start + length front ≡ at → take (suc at - start) (drop start bytes) ≡ front ++ 10 ∷ [] → take start bytes ++ (front ++ 10 ∷ []) ≡ take (suc at) bytes
+joined bytes start at front long line =
     let size : start + (suc at - start) ≡ suc at = omega (arith, long) in
     ap (λ l. take start bytes ++ l) (sym line) ∙ two_takes start (suc at - start) bytes ∙ ap (λ (n : ℕ). take n bytes) size
 
@@ -164,7 +164,7 @@ scanned_line bytes start at b is inside ends differ s =
       none = tt;
       long = omega arith;
       within = omega (arith, inside);
-      source = s.source ∙ ap (λ l. take start bytes ++ l) both.0 ∙ sym (append_assoc (take start bytes) line (source_part (drop (suc at) bytes))) ∙ ap (λ l. l ++ source_part (drop (suc at) bytes)) (joined bytes start at s.long (the_line bytes start at b is inside ends s));
+      source = s.source ∙ ap (λ l. take start bytes ++ l) both.0 ∙ sym (append_assoc (take start bytes) line (source_part (drop (suc at) bytes))) ∙ ap (λ l. l ++ source_part (drop (suc at) bytes)) (joined bytes start at front s.long (the_line bytes start at b is inside ends s));
       script = s.script ∙ both.1;
     }
 
