@@ -1,5 +1,5 @@
--- The lines of prints, one after another.
-use Rattle.std.proofs.Common.{◌≡◌, ℕ, List, [], ◌∷◌, ◌++◌, sym, ap, ◌∙◌, append_assoc, append-nil, decimal}
+-- The lines of prints, one after another, and those of places.
+use Rattle.std.proofs.Common.{◌≡◌, ℕ, List, [], ◌∷◌, ◌++◌, sym, ap, ◌∙◌, append_assoc, append-nil, codes, decimal}
 use Rattle.mz_cli.specs.Outcome.{line, print_lines}
 
 -- one more print is one more line
@@ -17,3 +17,8 @@ place_line number column what =
     let front = (number ++ 58 ∷ []) ++ column in
     sym (append_assoc (front ++ 58 ∷ 32 ∷ []) what (10 ∷ []) ∙ append_assoc front (58 ∷ 32 ∷ []) (what ++ 10 ∷ [])
     ∙ append_assoc (number ++ 58 ∷ []) column (58 ∷ 32 ∷ (what ++ 10 ∷ [])) ∙ append_assoc number (58 ∷ []) (column ++ 58 ∷ 32 ∷ (what ++ 10 ∷ [])))
+
+-- and of a view step, with its number
+pub step_line : (number column step : List ℕ) → number ++ 58 ∷ (column ++ 58 ∷ 32 ∷ (codes "bad step " ++ (step ++ 10 ∷ []))) ≡ ((((number ++ 58 ∷ []) ++ column) ++ 58 ∷ 32 ∷ []) ++ (codes "bad step " ++ step)) ++ 10 ∷ []
+step_line number column step =
+    ap (λ l. number ++ 58 ∷ (column ++ 58 ∷ 32 ∷ l)) (sym (append_assoc (codes "bad step ") step (10 ∷ []))) ∙ place_line number column (codes "bad step " ++ step)

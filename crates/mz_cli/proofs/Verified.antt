@@ -1,6 +1,7 @@
 -- From what the parts of `verify` answered to what it answers.
 use Rattle.std.proofs.Common.{◌≡◌, ℕ, ◌<◌, ◌≤◌, List, length, inl, inr, refl, sym, ap, subst, ◌∙◌, Result, Ok, Err, IfOk, arith}
 use Rattle.mz_tree.specs.Programs.{Program}
+use Rattle.mz_parse.specs.declared.tree.Surface.{Surface}
 use Rattle.mz_deriv.specs.Scripts.{Item}
 use Rattle.mz_deriv.specs.Derivable.{Derivable}
 use Rattle.mz_script.specs.Texts.{IsScriptText}
@@ -14,7 +15,8 @@ use Rattle.mz_cli.specs.declared.words.Mode.TheVariants.{Verify}
 use Rattle.mz_cli.specs.Refusals.{source_limit, HasFault, refusal_text}
 use Rattle.mz_cli.specs.Inputs.{input_limit, source_part, script_part}
 use Rattle.mz_cli.specs.Verifying.{IsDeclared, IsShort, Verifies, VerifyCauses}
-use Rattle.mz_cli.specs.Answered.{Judges, JudgesText}
+use Rattle.mz_cli.specs.Answered.{Judges, JudgesText, IsDeclaredTree}
+use Rattle.mz_cli.proofs.Reading.{reads_tree}
 use Rattle.mz_cli.specs.Outcome.{line, Answers}
 
 -- what the scripts of a text come to, it comes to
@@ -86,3 +88,11 @@ source_refused bytes (WrongLine number) short fault = absurd fault
 source_refused bytes (BadStep place step) short fault = absurd fault
 source_refused bytes (BadCommand place) short fault = absurd fault
 source_refused bytes (BadJoin place) short fault = absurd fault
+
+-- the parts aren't too long
+pub few_bytes : (bytes source : List ℕ) → source ≡ source_part bytes → length bytes ≤ input_limit → length source ≤ source_limit → IsShort bytes
+few_bytes bytes source same whole few = record { whole = whole; source = subst (λ l. length l ≤ source_limit) same few }
+
+-- the program that was read is that of the source part
+pub declared_source : (part source : List ℕ) (surface : Surface) (program : Program) → source ≡ part → IsDeclaredTree source surface program → IsDeclared part program
+declared_source part source surface program same tree = subst (λ l. IsDeclared l program) same (record { reads = reads_tree source surface program tree; declared = tree.declared })
