@@ -88,6 +88,13 @@ none_more : (front : List ℕ) (b : ℕ) → NoEnd front → (b == 10) ≡ false
 none_more [] b h e = (e, tt)
 none_more (c ∷ front) b (d, h) e = (d, none_more front b h e)
 
+pub not_ten : (b : ℕ) → (b ≡ 10 → ⊥) → (b == 10) ≡ false
+not_ten b never = by_test (b == 10) refl
+  where
+    by_test : (t : Bool) → (b == 10) ≡ t → (b == 10) ≡ false
+    by_test true is = absurd (never (eqb-true b 10 is))
+    by_test false is = is
+
 -- a byte that ends no line
 pub scanned_more : (bytes : List ℕ) (start at b : ℕ) → b ≡ slice_index_or bytes at 0 → at < length bytes → (b == 10) ≡ false → Scanned bytes start at → Scanned bytes start (suc at)
 scanned_more bytes start at b is inside other s =
@@ -140,11 +147,17 @@ begins_here bytes start at b is inside ends same s =
       script = sym (s.script ∙ both.1);
     }
 
+none_taken : (n : ℕ) → take {A = ℕ} n [] ≡ []
+none_taken zero = refl
+none_taken (suc n) = refl
+
 -- what was read before, and a line
 two_takes : (n m : ℕ) (xs : List ℕ) → take n xs ++ take m (drop n xs) ≡ take (n + m) xs
 two_takes zero m xs = ap (λ (k : ℕ). take k xs) (omega arith)
-two_takes (suc n) m [] = refl
-two_takes (suc n) m (x ∷ xs) = ap (λ l. x ∷ l) (two_takes n m xs)
+two_takes (suc n) m [] = none_taken m ∙ sym (none_taken (suc n + m))
+two_takes (suc n) m (x ∷ xs) =
+    let size : suc (n + m) ≡ suc n + m = omega arith in
+    ap (λ l. x ∷ l) (two_takes n m xs) ∙ ap (λ (k : ℕ). take k (x ∷ xs)) size
 
 joined : (bytes : List ℕ) (start at : ℕ) (front : List ℕ) → start + length front ≡ at → take (suc at - start) (drop start bytes) ≡ front ++ 10 ∷ [] → take start bytes ++ (front ++ 10 ∷ []) ≡ take (suc at) bytes
 joined bytes start at front long line =
@@ -186,7 +199,7 @@ whole (suc n) [] = refl
 whole (suc n) (b ∷ bytes) = ap (λ l. b ∷ l) (whole n bytes)
 
 -- no line is left
-pub begins_never : (bytes : List ℕ) (start at : ℕ) → at ≡ length bytes → Scanned bytes start at → Begins bytes at
+pub begins_never : (bytes : List ℕ) (start at : ℕ) → at ≡ length bytes → Scanned bytes start at → Begins bytes (length bytes)
 begins_never bytes start at last s =
     let front = s.front in
     let left : drop start bytes ≡ front = s.split ∙ ap (λ l. front ++ l) (nothing bytes at last) ∙ append-nil front in
@@ -194,7 +207,7 @@ begins_never bytes start at last s =
     let source : source_part bytes ≡ bytes = s.source ∙ ap (λ l. take start bytes ++ l) (ap source_part left ∙ both.0 ∙ sym left) ∙ whole start bytes in
     let script : script_part bytes ≡ [] = s.script ∙ ap script_part left ∙ both.1 in
     record {
-      within = s.within;
-      source = all bytes at last ∙ sym source;
-      script = nothing bytes at last ∙ sym script;
+      within = omega arith;
+      source = all bytes (length bytes) refl ∙ sym source;
+      script = nothing bytes (length bytes) refl ∙ sym script;
     }

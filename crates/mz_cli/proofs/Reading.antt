@@ -43,7 +43,7 @@ refused_by bytes Is program (Refused _) reads never = absurd never
 refused_by bytes Is program Memory reads any = tt
 
 -- the tree and the program of a text, with its reading
-pub reads_tree : (bytes : List ℕ) (surface : Surface) (program : Program) → IsDeclaredTree bytes surface program → Reads bytes program
+abbrev pub reads_tree : (bytes : List ℕ) (surface : Surface) (program : Program) → IsDeclaredTree bytes surface program → Reads bytes program
 reads_tree bytes surface program is = reads_of bytes surface program is.tree is.flattens
 
 -- what is wrong with a text is wrong with one that is to be run
