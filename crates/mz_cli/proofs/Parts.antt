@@ -1,7 +1,7 @@
 -- How the parts of an input are found: line by line, up to the first head of a script.
 use Rattle.std.proofs.Common.{◌≡◌, ◌==◌, ℕ, zero, suc, ◌+◌, ◌-◌, ◌<◌, ◌≤◌, Bool, true, false, List, [], ◌∷◌, ◌++◌, length, take, drop, slice_index_or, refl, sym, ap, subst, ◌∙◌, arith, append-nil, append_assoc, length-append, eqb-true, if◌then◌else◌}
 use Rattle.std.specs.Str.{bytes_eq}
-use Rattle.mz_script.proofs.Naming.{same_text}
+use Rattle.mz_script.proofs.Naming.{same_text, text_same, differ}
 use Rattle.mz_script.specs.Cutting.{before_first, lines}
 use Rattle.mz_script.proofs.Cuts.{NoEnd, cut_at}
 use Rattle.mz_cli.specs.Inputs.{head_line, before_head, from_head, text_of, source_part, script_part}
@@ -134,12 +134,18 @@ pub record Begins (bytes : List ℕ) (at : ℕ) : Type 0 where
   pub source : take at bytes ≡ source_part bytes
   pub script : drop at bytes ≡ script_part bytes
 
+-- the line that ends there by its bytes
+line_is : (bytes : List ℕ) (start at b : ℕ) → b ≡ slice_index_or bytes at 0 → at < length bytes → b ≡ 10 → (s : Scanned bytes start at) → take (at + 1 - start) (drop start bytes) ≡ s.front ++ 10 ∷ []
+line_is bytes start at b is inside ends s =
+    let size : at + 1 - start ≡ suc at - start = omega arith in
+    ap (λ (n : ℕ). take n (drop start bytes)) size ∙ the_line bytes start at b is inside ends s
+
 -- it is a head
-pub begins_here : (bytes : List ℕ) (start at b : ℕ) → b ≡ slice_index_or bytes at 0 → at < length bytes → b ≡ 10 → bytes_eq (take (suc at - start) (drop start bytes)) head_line ≡ true → Scanned bytes start at → Begins bytes start
+pub begins_here : (bytes : List ℕ) (start at b : ℕ) → b ≡ slice_index_or bytes at 0 → at < length bytes → b ≡ 10 → take (at + 1 - start) (drop start bytes) ≡ head_line → Scanned bytes start at → Begins bytes start
 begins_here bytes start at b is inside ends same s =
     let line = s.front ++ 10 ∷ [] in
     let long = s.long in
-    let head : bytes_eq line head_line ≡ true = subst (λ l. bytes_eq l head_line ≡ true) (the_line bytes start at b is inside ends s) same in
+    let head : bytes_eq line head_line ≡ true = text_same line head_line (sym (line_is bytes start at b is inside ends s) ∙ same) in
     let both = at_head (drop start bytes) line (drop (suc at) bytes) (lines_here bytes start at b is inside ends s) head in
     record {
       within = omega (arith, inside, long);
@@ -165,11 +171,11 @@ joined bytes start at front long line =
     ap (λ l. take start bytes ++ l) (sym line) ∙ two_takes start (suc at - start) bytes ∙ ap (λ (n : ℕ). take n bytes) size
 
 -- it is another line
-pub scanned_line : (bytes : List ℕ) (start at b : ℕ) → b ≡ slice_index_or bytes at 0 → at < length bytes → b ≡ 10 → bytes_eq (take (suc at - start) (drop start bytes)) head_line ≡ false → Scanned bytes start at → Scanned bytes (suc at) (suc at)
-scanned_line bytes start at b is inside ends differ s =
+pub scanned_line : (bytes : List ℕ) (start at b : ℕ) → b ≡ slice_index_or bytes at 0 → at < length bytes → b ≡ 10 → (take (at + 1 - start) (drop start bytes) ≡ head_line → ⊥) → Scanned bytes start at → Scanned bytes (suc at) (suc at)
+scanned_line bytes start at b is inside ends never s =
     let front = s.front in
     let line = front ++ 10 ∷ [] in
-    let other : bytes_eq line head_line ≡ false = subst (λ l. bytes_eq l head_line ≡ false) (the_line bytes start at b is inside ends s) differ in
+    let other : bytes_eq line head_line ≡ false = differ line head_line (λ same. never (line_is bytes start at b is inside ends s ∙ same)) in
     let both = at_line (drop start bytes) line (drop (suc at) bytes) (lines_here bytes start at b is inside ends s) other in
     record {
       front = [];
@@ -198,6 +204,10 @@ whole zero bytes = refl
 whole (suc n) [] = refl
 whole (suc n) (b ∷ bytes) = ap (λ l. b ∷ l) (whole n bytes)
 
+-- the same places
+pub moved : (bytes : List ℕ) (start at begin next : ℕ) → start ≡ begin → at ≡ next → Scanned bytes start at → Scanned bytes begin next
+moved bytes start at begin next same there s = subst (λ (b : ℕ). Scanned bytes b next) same (subst (λ (n : ℕ). Scanned bytes start n) there s)
+
 -- no line is left
 pub begins_never : (bytes : List ℕ) (start at : ℕ) → at ≡ length bytes → Scanned bytes start at → Begins bytes (length bytes)
 begins_never bytes start at last s =
@@ -211,3 +221,13 @@ begins_never bytes start at last s =
       source = all bytes (length bytes) refl ∙ sym source;
       script = nothing bytes (length bytes) refl ∙ sym script;
     }
+
+-- all behind a place
+pub all_behind : (n : ℕ) (bytes : List ℕ) → take (length bytes - n) (drop n bytes) ≡ drop n bytes
+all_behind zero bytes =
+    let size : length bytes - 0 ≡ length bytes = omega arith in
+    ap (λ (k : ℕ). take k bytes) size ∙ all bytes (length bytes) refl
+all_behind (suc n) [] = none_taken (length {A = ℕ} [] - suc n)
+all_behind (suc n) (b ∷ bytes) =
+    let size : length (b ∷ bytes) - suc n ≡ length bytes - n = omega arith in
+    ap (λ (k : ℕ). take k (drop n bytes)) size ∙ all_behind n bytes
