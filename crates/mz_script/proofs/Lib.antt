@@ -13,3 +13,7 @@ pub mod ProgramNames
 pub mod Exact
 pub mod Cuts
 pub mod NoEnds
+pub mod FirstLines
+pub mod ReadFronts
+pub mod Walking
+pub mod Bodies

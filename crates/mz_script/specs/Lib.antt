@@ -9,3 +9,5 @@ pub mod Fronts
 pub mod ReadWords
 pub mod ReadLines
 pub mod Laws
+pub mod Stops
+pub mod Said

@@ -14,6 +14,10 @@
 //! its names stand for one thing alone, and that each match has a case.
 #![tactic(auto)]
 
+mod fault;
 mod laws;
+mod read;
 
+pub use fault::ScriptFault;
 pub use laws::{at_most_one_derivation, at_most_one_text, spelled_has_text};
+pub use read::read_script;
