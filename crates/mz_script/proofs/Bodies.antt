@@ -34,8 +34,8 @@ seen_append [] i items = refl
 seen_append (s ∷ ss) i items = ap (λ l. See_item s ∷ l) (seen_append ss i items)
 
 -- an error that is handed on stops where it did
-pub hands_on : {X A : Type 0} (view : X → A × List (List ℕ)) (r : Result X Stop) (e : Stop) (read : Read (List ℕ) A) → r ≡ Err e → Stops (cause e) read → Gives view r read
-hands_on {X} {A} view r e read same stop = subst (λ (q : Result X Stop). Gives view q read) (sym same) stop
+pub hands_on : {T X A : Type 0} (view : X → A × List T) (r : Result X Stop) (e : Stop) (read : Read T A) → r ≡ Err e → Stops (cause e) read → Gives view r read
+hands_on {T} {X} {A} view r e read same stop = subst (λ (q : Result X Stop). Gives view q read) (sym same) stop
 
 -- the commands that are left begin with the next
 pub next_commands : (commands : List CodeCommand) (i : ℕ) (command : CodeCommand) → i < length commands → command ≡ get_or commands i command →

@@ -17,3 +17,7 @@ pub mod FirstLines
 pub mod ReadFronts
 pub mod Walking
 pub mod Bodies
+pub mod Functions
+pub mod CaseLoops
+pub mod SoundTypes
+pub mod FieldLoops

@@ -194,7 +194,7 @@ pub(crate) fn is_fun(line: Line, name: &[u8]) -> bool
     ensures { result ≡ begins_fun name.now (plain_line line) }
 {
     match line {
-        Line::Fun(other) => other.as_slice() == name,
+        Line::Fun(other) => name == other.as_slice(),
         _ => false,
     }
 }
