@@ -21,3 +21,6 @@ pub mod Functions
 pub mod CaseLoops
 pub mod SoundTypes
 pub mod FieldLoops
+pub mod SoundLines
+pub mod WholeScripts
+pub mod Settling

@@ -11,3 +11,4 @@ pub mod ReadLines
 pub mod Laws
 pub mod Stops
 pub mod Said
+pub mod Reads

@@ -3,4 +3,6 @@
 #![tactic(auto)]
 
 #[cfg(test)]
+mod program;
+#[cfg(test)]
 mod tests;

@@ -1,8 +1,9 @@
 //! What is answered to texts of derivations: the right text of each program, and what one change of it makes wrong.
-use mz_parse::parse;
-use mz_scope::resolve;
+ghost use Rattle.mz_tree.specs.Scoped.{Scoped};
+ghost use Rattle.mz_tree.specs.View.{plain_program};
+
+use crate::program::program;
 use mz_script::{ScriptFault, read_script};
-use mz_token::tokens;
 use mz_tree::Program;
 use std::alloc::Global;
 use std::test::Fail;
@@ -13,25 +14,13 @@ use table::{
 
 mod table;
 
-// The program of a source.
-fn program(alloc: Global, source: &[u8]) -> Option<Program> {
-    if source.len() > 1_000_000 {
-        return None;
-    }
-    let Ok(found) = tokens(alloc, source) else {
-        return None;
-    };
-    let Ok(surface) = parse(alloc, &found) else {
-        return None;
-    };
-    match resolve(alloc, &surface) {
-        Ok(program) => Some(program),
-        Err(_) => None,
-    }
-}
-
 // The number of the line that is told; 0 where the bytes are a text of a derivation, and 1,000,000 without memory.
-fn told(alloc: Global, program: &Program, bytes: &[u8]) -> u32 {
+fn told(alloc: Global, program: &Program, bytes: &[u8]) -> u32
+    requires scoped { Scoped (plain_program program.now) }
+{
+    if bytes.len() > 1_000_000 {
+        return 1_000_000;
+    }
     match read_script(alloc, program, bytes) {
         Ok(_) => 0,
         Err(ScriptFault::Line(line)) => line,

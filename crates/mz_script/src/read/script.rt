@@ -1,12 +1,15 @@
 //! The call for a whole text.
-ghost use Rattle.std.specs.Prelude.{◌≡◌, ◌<◌, ◌^◌, ◌-◌, length, map, IfOk, IfErr};
+ghost use Rattle.std.specs.Prelude.{◌≡◌, ◌<◌, ◌^◌, ◌-◌, ◌+◌, ℕ, List, length, map, IfOk, IfErr};
 ghost use Rattle.mz_tree.specs.Scoped.{Scoped};
 ghost use Rattle.mz_tree.specs.View.{plain_fun, plain_program};
+ghost use Rattle.mz_deriv.specs.Scripts.{Item};
 ghost use Rattle.mz_deriv.specs.View.{plain_derivation, plain_script};
 ghost use Rattle.mz_script.specs.Cutting.{lines};
 ghost use Rattle.mz_script.specs.ReadLines.{piece_of};
 ghost use Rattle.mz_script.specs.Reading.{fun_at, fun_by, funs_by, head_at, script_by};
+ghost use Rattle.mz_script.specs.Reads.{GivesScripts, HasCause, Settles, TellsLine};
 ghost use Rattle.mz_script.specs.Stops.{Gives};
+ghost use Rattle.mz_script.specs.Texts.{IsScriptText, IsWrongLine};
 
 use crate::ScriptFault;
 use crate::read::bodies::commands;
@@ -107,13 +110,27 @@ fn front<'a>(
 // The scripts of all functions, in all the bytes.
 fn all_scripts(alloc: Global, program: &Program, bytes: &[u8]) -> Result<Scripts, Stop>
     requires scoped { Scoped (plain_program program.now) }
+    ensures { Settles (plain_program program.now) bytes.now result }
 {
-    let (scripts, rest) = front(alloc, program, bytes)?;
-    if rest.len() == 0 {
-        Ok(scripts)
-    } else {
-        Err(Stop::Unexpected(count(rest)))
+    match front(alloc, program, bytes) {
+        Err(stop) => Err(stop),
+        Ok((scripts, rest)) => {
+            if rest.len() == 0 {
+                Ok(scripts)
+            } else {
+                Err(Stop::Unexpected(count(rest)))
+            }
+        }
     }
+}
+
+// The number, from 1, of the line from which so many lines are left.
+#[tactic(auto, using(crate::proofs::WholeScripts::few_lines))]
+fn number(bytes: &[u8], left: usize) -> u32
+    requires { length bytes.now < 2 ^ 32 - 1 }
+    ensures { result ≡ (length (lines bytes.now) - left) + 1 }
+{
+    (count(bytes).saturating_sub(left) + 1) as u32
 }
 
 /// The derivation of which fewer than 2^32-1 bytes are the text, for a program that was read. No bytes are the text of two.
@@ -128,12 +145,14 @@ pub fn read_script(
 ) -> Result<Derivation, ScriptFault>
     requires scoped { Scoped (plain_program program.now) }
     requires short { length bytes.now < 2 ^ 32 - 1 }
+    ensures text { IfOk result (λ d. IsScriptText (plain_program program.now) bytes.now (plain_derivation d)) }
+    ensures cause { IfErr result (λ fault. HasCause (plain_program program.now) bytes.now fault) }
+    ensures gives { (scripts : List (List Item)) → IsScriptText (plain_program program.now) bytes.now scripts → GivesScripts result scripts }
+    ensures tells { (n : ℕ) → IsWrongLine (plain_program program.now) bytes.now n → TellsLine result n }
 {
     match all_scripts(alloc, program, bytes) {
         Ok(scripts) => Ok(Derivation { scripts }),
-        Err(Stop::Unexpected(left)) => {
-            Err(ScriptFault::Line((count(bytes).saturating_sub(left) + 1) as u32))
-        }
+        Err(Stop::Unexpected(left)) => Err(ScriptFault::Line(number(bytes, left))),
         Err(Stop::Memory) => Err(ScriptFault::Memory),
     }
 }
