@@ -1,17 +1,19 @@
 -- The cases of a match as the code goes through them, one by one.
-use Rattle.std.proofs.Common.{◌≡◌, ◌==◌, ℕ, zero, suc, ◌<◌, ◌≤◌, ◌+◌, Bool, true, false, List, [], ◌∷◌, ◌++◌, length, drop, get_or, Some, Ok, Err, inl, inr, refl, sym, ap, ◌∙◌, if◌then◌else◌, arith}
+use Rattle.std.proofs.Common.{◌≡◌, ◌==◌, ℕ, zero, suc, ◌<◌, ◌≤◌, ◌+◌, Bool, true, false, List, [], ◌∷◌, ◌++◌, length, drop, get_or, Option, Some, None, Ok, Err, inl, inr, refl, sym, ap, ◌∙◌, if◌then◌else◌, arith}
 use Rattle.std.proofs.lemmas.Bool.Decides.{eqb_tells}
 use Rattle.std.proofs.lemmas.List.{drop_more}
-use Rattle.mz_grammar.specs.Reading.{Read, ◌>>=◌}
+use Rattle.mz_grammar.specs.Reading.{Read, ◌>>=◌, bind, done}
 use Rattle.mz_grammar.specs.Answers.{Stopped, Stops}
-use Rattle.mz_tree.specs.Code.{Body, Case, Cases, The_case, No_cases, More_cases, cases_of}
+use Rattle.mz_tree.specs.Plain.{Atom, Has_atom, Same_atom, Int_type, Unknown_type, Dynamic_type, Locked_type, Named_type, Function_type, Block_type, Lock_type}
+use Rattle.mz_deriv.specs.Spelled.{has_number}
+use Rattle.mz_tree.specs.Code.{Match_op, Body, Case, Cases, The_case, No_cases, More_cases, cases_of}
 use Rattle.mz_tree.specs.View.{plain_body, plain_cases}
 use Rattle.mz_tree.specs.declared.code.Case.{Case as CodeCase, out-Case}
 use Rattle.mz_tree.proofs.CodeViews.{plain_case_is}
 use Rattle.mz_deriv.specs.Scripts.{ScriptCase, ScriptCases, No_script_cases, More_script_cases, script_cases_of}
 use Rattle.mz_script.specs.Pieces.{Piece}
-use Rattle.mz_script.specs.Places.{Walked, has_case, walks}
-use Rattle.mz_script.specs.Reading.{case_by, cases_by}
+use Rattle.mz_script.specs.Places.{Walked, has_case, numbered_by, walked_by, walks}
+use Rattle.mz_script.specs.Reading.{case_by, cases_by, commands_by, join_by, match_by, op_by}
 use Rattle.mz_script.proofs.Bodies.{stops_then, stops_same}
 
 -- the cases that are left begin with the next
@@ -45,6 +47,25 @@ has_here cases i con c within here same = ap (has_case con) (next_case cases i c
 
 pub has_later : (cases : List CodeCase) (i con : ℕ) (c : CodeCase) → i < length cases → c ≡ get_or cases i c → ((out-Case c).con ≡ con → ⊥) → has_case con (cases_of (plain_cases (drop i cases))) ≡ has_case con (cases_of (plain_cases (drop (i + 1) cases)))
 has_later cases i con c within here other = ap (has_case con) (next_case cases i c within here) ∙ ap (λ b. if b then true else has_case con (cases_of (plain_cases (drop (i + 1) cases)))) (other_number (out-Case c).con con other)
+
+-- ---- a match, and what its `do` uses
+
+number_is : (block data_type : ℕ) (all : Cases) (giving : List (Atom ℕ)) (uses : Option (Atom ℕ)) → has_number (Match_op block data_type all giving) uses ≡ numbered_by uses
+number_is block data_type all giving None = refl
+number_is block data_type all giving (Some (Same_atom x y)) = refl
+number_is block data_type all giving (Some (Has_atom x Int_type)) = refl
+number_is block data_type all giving (Some (Has_atom x Unknown_type)) = refl
+number_is block data_type all giving (Some (Has_atom x Dynamic_type)) = refl
+number_is block data_type all giving (Some (Has_atom x Locked_type)) = refl
+number_is block data_type all giving (Some (Has_atom x (Named_type d))) = refl
+number_is block data_type all giving (Some (Has_atom x (Function_type s))) = refl
+number_is block data_type all giving (Some (Has_atom x (Block_type con fields adopts))) = refl
+number_is block data_type all giving (Some (Has_atom x (Lock_type guarded))) = refl
+
+pub match_is : {T : Type 0} (piece : T → Piece) (block data_type : ℕ) (all : Cases) (giving : List (Atom ℕ)) (uses : Option (Atom ℕ)) (ts : List T) → op_by piece (Match_op block data_type all giving) uses ts ≡ match_by piece uses all ts
+unfolding commands_by match_by
+match_is piece block data_type all giving uses ts =
+    ap (λ n. bind (cases_by piece n (walked_by uses all) all) (λ cs. bind (join_by piece cs) (λ join. done (cs, join))) ts) (number_is block data_type all giving uses)
 
 -- ---- scripts of cases
 

@@ -213,7 +213,7 @@ fn maybe_join<'a>(
 
 // The scripts of an if.
 #[cycle(bodies)]
-#[tactic(auto, unfolding(crate::specs::Reading::commands_by))]
+#[tactic(auto, unfolding(crate::specs::Reading::both_by))]
 fn both_cases<'a>(
     alloc: Global,
     program: &Program,
@@ -235,7 +235,7 @@ fn both_cases<'a>(
 
 // The scripts of a match.
 #[cycle(bodies)]
-#[tactic(auto, unfolding(crate::specs::Reading::commands_by))]
+#[tactic(auto, unfolding(crate::specs::Reading::match_by))]
 fn match_cases<'a>(
     alloc: Global,
     program: &Program,
@@ -270,8 +270,9 @@ fn some_cases<'a>(
     let mut scripts = Items::new(alloc);
     let mut rest = bytes;
     for i in 0..cases.len() {
-        if has_script(walked, cases[i].con) {
-            let (script, more) = case(alloc, program, numbered, &cases[i].body, rest)?;
+        let branch = &cases[i];
+        if has_script(walked, branch.con) {
+            let (script, more) = case(alloc, program, numbered, &branch.body, rest)?;
             scripts.push(script)?;
             rest = more;
         }
@@ -281,7 +282,7 @@ fn some_cases<'a>(
 
 // What the `do` of an operation brings.
 #[cycle(bodies)]
-#[tactic(auto, unfolding(crate::specs::Reading::commands_by))]
+#[tactic(auto, unfolding(crate::specs::Reading::commands_by, crate::specs::Reading::both_by))]
 fn brought<'a>(
     alloc: Global,
     program: &Program,

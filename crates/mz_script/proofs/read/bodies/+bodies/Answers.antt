@@ -1,21 +1,23 @@
 use Rattle.std.proofs.Common.{[], ◌∷◌, ◌++◌, map, drop, ◌+◌, Ok, Err, option_map, sym, ap, ◌∙◌, arith}
 use Rattle.std.proofs.lemmas.Result.{err_from_is_err_and}
-use Rattle.mz_tree.specs.Code.{Body, commands_of}
-use Rattle.mz_tree.specs.View.{plain_atom, plain_atoms, plain_commands, plain_op}
+use Rattle.mz_tree.specs.Code.{Body, cases_of, commands_of}
+use Rattle.mz_tree.specs.View.{plain_atom, plain_atoms, plain_cases, plain_commands, plain_op}
 use Rattle.mz_tree.proofs.CodeViews.{plain_body_is}
 use Rattle.mz_script.specs.Cutting.{lines}
 use Rattle.mz_deriv.specs.Scripts.{script_cases_of}
-use Rattle.mz_deriv.specs.View.{plain_item, plain_script_cases}
+use Rattle.mz_deriv.specs.View.{plain_item, plain_script_case, plain_script_cases}
 use Rattle.mz_script.specs.ReadLines.{piece_of}
 use Rattle.mz_tree.specs.View.{plain_program}
 use Rattle.mz_script.specs.Stops.{cause}
 use Rattle.mz_grammar.specs.Answers.{Stops}
 use Rattle.mz_grammar.proofs.Loops.{with_front}
 use Rattle.mz_tree.specs.declared.code.Body.{out-Body}
-use Rattle.mz_script.specs.Reading.{case_by, commands_by}
+use Rattle.mz_script.specs.Reading.{case_by, cases_by, commands_by}
 use Rattle.mz_script.proofs.Spelling.{map_append}
 use Rattle.mz_deriv.proofs.Views.{plain_do}
 use Rattle.mz_script.proofs.Bodies.{case_done, case_stops, point_done, stops_same, hands_on, next_commands, no_commands, command_read, command_stops, last_done, last_unseen, last_unended}
+use Rattle.mz_script.specs.Places.{walked_of}
+use Rattle.mz_script.proofs.CaseLoops.{next_case, no_case_left, with_cases, case_read, case_stopped, case_passed, cases_done}
 use Rattle.mz_script.proofs.read.bodies.+bodies.Goals as goal
 
 pub case-returns-in_err-items : goal.case-returns-in_err-items
@@ -80,3 +82,18 @@ commands-returns t c =
     sym c.loop-i.invariant ∙ ap (λ l. with_front (map plain_item c.loop-i.items) (commands_by (piece_of (plain_program c.args.program.now)) l (lines c.loop-i.rest.now))) none
     ∙ last_done (piece_of (plain_program c.args.program.now)) (map plain_item c.loop-i.items) (map plain_item c.in_ok-front-2.front) (lines c.loop-i.rest.now) (lines c.in_ok-front-2.more.now) (lines c.in_ok-more.more.now) c.in_ok-front-2.ensures c.in_ok-more.ensures
     ∙ ap (λ l. Ok (l, lines c.in_ok-more.more.now)) (sym (ap (map plain_item) c.in_ok-append-2.ensures ∙ map_append plain_item c.loop-i.items c.in_ok-front-2.front))
+
+pub some_cases-returns-in_err-script : goal.some_cases-returns-in_err-script
+some_cases-returns-in_err-script t c =
+    let p = err_from_is_err_and c.from_residual.result c.from_residual.ensures.1 in
+    let s = cause c.in_err-script.field-0.0 in
+    let next = next_case c.args.cases.now c.loop-i.i c.index-cases-i.result c.loop-i-test.true c.index-cases-i.is in
+    hands_on _ c.from_residual.result c.in_err-script.field-0.0 _ (p.1 ∙ ap Err p.2)
+    (stops_same s _ _ (ap (λ l. with_cases (map plain_script_case c.loop-i.scripts) (cases_by (piece_of (plain_program c.args.program.now)) c.args.numbered (walked_of c.args.walked) l (lines c.loop-i.rest.now))) (sym next) ∙ c.loop-i.invariant)
+    (case_stopped (piece_of (plain_program c.args.program.now)) c.args.numbered (walked_of c.args.walked) _ _ _ (map plain_script_case c.loop-i.scripts) s (lines c.loop-i.rest.now) (sym c.has_script.ensures ∙ c.if-has_script.true) c.in_err-script.ensures))
+
+pub some_cases-returns : goal.some_cases-returns
+some_cases-returns t c =
+    let none = no_case_left c.args.cases.now c.loop-i.i (omega arith) in
+    sym c.loop-i.invariant ∙ ap (λ l. with_cases (map plain_script_case c.loop-i.scripts) (cases_by (piece_of (plain_program c.args.program.now)) c.args.numbered (walked_of c.args.walked) l (lines c.loop-i.rest.now))) none
+    ∙ cases_done (piece_of (plain_program c.args.program.now)) c.args.numbered (walked_of c.args.walked) (map plain_script_case c.loop-i.scripts) (lines c.loop-i.rest.now)
