@@ -1,5 +1,5 @@
 -- The cases of a match as the code goes through them, one by one.
-use Rattle.std.proofs.Common.{◌≡◌, ◌==◌, ℕ, zero, suc, ◌<◌, ◌≤◌, ◌+◌, Bool, true, false, List, [], ◌∷◌, ◌++◌, length, drop, get_or, Option, Some, None, Ok, Err, inl, inr, refl, sym, ap, ◌∙◌, if◌then◌else◌, arith}
+use Rattle.std.proofs.Common.{◌≡◌, ◌==◌, ℕ, zero, suc, ◌<◌, ◌≤◌, ◌+◌, Bool, true, false, List, [], ◌∷◌, ◌++◌, length, drop, get_or, Option, Some, None, Ok, Err, inl, inr, refl, sym, ap, subst, ◌∙◌, if◌then◌else◌, arith}
 use Rattle.std.proofs.lemmas.Bool.Decides.{eqb_tells}
 use Rattle.std.proofs.lemmas.List.{drop_more}
 use Rattle.mz_grammar.specs.Reading.{Read, ◌>>=◌, bind, done}
@@ -13,7 +13,7 @@ use Rattle.mz_tree.proofs.CodeViews.{plain_case_is}
 use Rattle.mz_deriv.specs.Scripts.{ScriptCase, ScriptCases, No_script_cases, More_script_cases, script_cases_of}
 use Rattle.mz_script.specs.Pieces.{Piece}
 use Rattle.mz_script.specs.Places.{Walked, has_case, numbered_by, walked_by, walks}
-use Rattle.mz_script.specs.Reading.{case_by, cases_by, commands_by, join_by, match_by, op_by}
+use Rattle.mz_script.specs.Reading.{case_by, cases_by, commands_by, join_at, join_by, match_by, op_by}
 use Rattle.mz_script.proofs.Bodies.{stops_then, stops_same}
 
 -- the cases that are left begin with the next
@@ -42,11 +42,11 @@ other_number n m e = elim (eqb_tells n m) [
   | inr t ↦ t.0
 ]
 
-pub has_here : (cases : List CodeCase) (i con : ℕ) (c : CodeCase) → i < length cases → c ≡ get_or cases i c → (out-Case c).con ≡ con → has_case con (cases_of (plain_cases (drop i cases))) ≡ true
-has_here cases i con c within here same = ap (has_case con) (next_case cases i c within here) ∙ ap (λ b. if b then true else has_case con (cases_of (plain_cases (drop (i + 1) cases)))) (same_number (out-Case c).con con same)
+pub has_here : (cases : List CodeCase) (i con : ℕ) (c : CodeCase) → i < length cases → c ≡ get_or cases i c → (out-Case (get_or cases i c)).con ≡ con → has_case con (cases_of (plain_cases (drop i cases))) ≡ true
+has_here cases i con c within here same = ap (has_case con) (next_case cases i c within here) ∙ ap (λ b. if b then true else has_case con (cases_of (plain_cases (drop (i + 1) cases)))) (same_number (out-Case c).con con (subst (λ x. (out-Case x).con ≡ con) (sym here) same))
 
-pub has_later : (cases : List CodeCase) (i con : ℕ) (c : CodeCase) → i < length cases → c ≡ get_or cases i c → ((out-Case c).con ≡ con → ⊥) → has_case con (cases_of (plain_cases (drop i cases))) ≡ has_case con (cases_of (plain_cases (drop (i + 1) cases)))
-has_later cases i con c within here other = ap (has_case con) (next_case cases i c within here) ∙ ap (λ b. if b then true else has_case con (cases_of (plain_cases (drop (i + 1) cases)))) (other_number (out-Case c).con con other)
+pub has_later : (cases : List CodeCase) (i con : ℕ) (c : CodeCase) → i < length cases → c ≡ get_or cases i c → ((out-Case (get_or cases i c)).con ≡ con → ⊥) → has_case con (cases_of (plain_cases (drop i cases))) ≡ has_case con (cases_of (plain_cases (drop (i + 1) cases)))
+has_later cases i con c within here other = ap (has_case con) (next_case cases i c within here) ∙ ap (λ b. if b then true else has_case con (cases_of (plain_cases (drop (i + 1) cases)))) (other_number (out-Case c).con con (subst (λ x. (out-Case x).con ≡ con → ⊥) (sym here) other))
 
 -- ---- a match, and what its `do` uses
 
@@ -117,3 +117,8 @@ module _ {T : Type 0} where
     pub cases_done : (front : List ScriptCase) (ts : List T) → with_cases front (cases_by piece numbered walked No_cases ts) ≡ Ok (script_cases_of front, ts)
     unfolding cases_by
     cases_done front ts = ap (λ l. Ok (l, ts)) (before_none front)
+
+-- where a case is, a join is behind it
+pub join_some : {T : Type 0} (piece : T → Piece) (cs : List ScriptCase) (ts : List T) → (length cs ≡ 0 → ⊥) → join_by piece (script_cases_of cs) ts ≡ join_at piece ts
+join_some piece [] ts some = absurd (some refl)
+join_some piece (c ∷ cs) ts some = refl

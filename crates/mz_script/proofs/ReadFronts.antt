@@ -46,8 +46,8 @@ pub names_same : (name other : List ℕ) → bytes_eq name other ≡ same_name n
 names_same [] [] = refl
 names_same [] (c ∷ other) = refl
 names_same (b ∷ name) [] = refl
-names_same (b ∷ name) (c ∷ other) = by_test (b == c) refl
+names_same (b ∷ name) (c ∷ other) = by_test (b == c) refl (names_same name other)
   where
-    by_test : (t : Bool) → (b == c) ≡ t → bytes_eq (b ∷ name) (c ∷ other) ≡ same_name (b ∷ name) (c ∷ other)
-    by_test true same = rw same (names_same name other)
-    by_test false other_byte = rw other_byte refl
+    by_test : (t : Bool) → (b == c) ≡ t → bytes_eq name other ≡ same_name name other → bytes_eq (b ∷ name) (c ∷ other) ≡ same_name (b ∷ name) (c ∷ other)
+    by_test true same more = rw same more
+    by_test false other_byte more = rw other_byte refl

@@ -42,7 +42,7 @@ module _ (p : Program) where
   -- ---- steps
 
   -- this step stands at the front, behind nothing
-  StepIs : List ℕ → List ℕ → Step → Type 0
+  abbrev StepIs : List ℕ → List ℕ → Step → Type 0
   StepIs bytes rest s = (bytes ≡ step_text p s ++ rest) × StepSpelled p s
 
   -- a step behind its word
@@ -57,9 +57,9 @@ module _ (p : Program) where
   last_steps_were bytes rest s e = elim (choice (codes "meet ") (meet_at p) (choose_text (codes "infield ") (field_at p) (choose_text (codes "inlock ") (lock_at p) (λ b. Err (Wrong b)))) bytes (s, rest) e) [
     | inl w ↦ step_was (both_sound one_sound (behind_sound one_sound (codes " "))) (codes "meet ") (λ (x : Atom ℕ × Atom ℕ). Meet_step x.0 x.1) bytes rest s (λ x. refl) (λ x l. l) w
     | inr e1 ↦ elim (choice (codes "infield ") (field_at p) (choose_text (codes "inlock ") (lock_at p) (λ b. Err (Wrong b))) bytes (s, rest) e1) [
-      | inl w ↦ step_was (both_sound one_sound (behind_sound place_sound (codes " "))) (codes "infield ") (λ (x : Atom ℕ × (ℕ × ℕ)). Field_step x.0 x.1.0 x.1.1) bytes rest s (λ x. refl) (λ x l. l) w
+      | inl w ↦ step_was (both_sound one_sound (behind_sound place_sound (codes " "))) (codes "infield ") (λ (x : Atom ℕ × (ℕ × ℕ)). Field_step x.0 x.1.0 x.1.1) bytes rest s (λ x. refl) (λ x l. (l.0, l.1.0, l.1.1)) w
       | inr e2 ↦ elim (choice (codes "inlock ") (lock_at p) (λ b. Err (Wrong b)) bytes (s, rest) e2) [
-        | inl w ↦ step_was (both_sound one_sound (behind_sound place_sound (codes " "))) (codes "inlock ") (λ (x : Atom ℕ × (ℕ × ℕ)). Lock_step x.0 x.1.0 x.1.1) bytes rest s (λ x. refl) (λ x l. l) w
+        | inl w ↦ step_was (both_sound one_sound (behind_sound place_sound (codes " "))) (codes "inlock ") (λ (x : Atom ℕ × (ℕ × ℕ)). Lock_step x.0 x.1.0 x.1.1) bytes rest s (λ x. refl) (λ x l. (l.0, l.1.0, l.1.1)) w
         | inr e3 ↦ cc
       ]
     ]
@@ -88,7 +88,7 @@ module _ (p : Program) where
     | inr e1 ↦ elim (choice (codes "copy ") (image Copy_step (atom_at p)) (choose_text (codes "unfold ") (unfold_at p) (choose_text (codes "fold ") (image Fold_step (atom_at p)) (choose_text (codes "rename ") (rename_at p) (more_steps_at p)))) bytes (s, rest) e1) [
       | inl w ↦ step_was one_sound (codes "copy ") Copy_step bytes rest s (λ x. refl) (λ x l. l) w
       | inr e2 ↦ elim (choice (codes "unfold ") (unfold_at p) (choose_text (codes "fold ") (image Fold_step (atom_at p)) (choose_text (codes "rename ") (rename_at p) (more_steps_at p))) bytes (s, rest) e2) [
-        | inl w ↦ step_was (both_sound name_sound (behind_sound (both_sound (data_sound p) (behind_sound number_sound (codes " "))) (codes " "))) (codes "unfold ") (λ (x : ℕ × (ℕ × ℕ)). Unfold_step x.0 x.1.0 x.1.1) bytes rest s (λ x. refl) (λ x l. l) w
+        | inl w ↦ step_was (both_sound name_sound (behind_sound (both_sound (data_sound p) (behind_sound number_sound (codes " "))) (codes " "))) (codes "unfold ") (λ (x : ℕ × (ℕ × ℕ)). Unfold_step x.0 x.1.0 x.1.1) bytes rest s (λ x. refl) (λ x l. (l.0, l.1.0, l.1.1)) w
         | inr e3 ↦ elim (choice (codes "fold ") (image Fold_step (atom_at p)) (choose_text (codes "rename ") (rename_at p) (more_steps_at p)) bytes (s, rest) e3) [
           | inl w ↦ step_was one_sound (codes "fold ") Fold_step bytes rest s (λ x. refl) (λ x l. l) w
           | inr e4 ↦ elim (choice (codes "rename ") (rename_at p) (more_steps_at p) bytes (s, rest) e4) [
@@ -103,7 +103,7 @@ module _ (p : Program) where
   -- ---- lines
 
   -- this piece stands at the front
-  PieceIs : List ℕ → List ℕ → Piece → Type 0
+  abbrev PieceIs : List ℕ → List ℕ → Piece → Type 0
   PieceIs bytes rest q = (bytes ≡ piece_text p q ++ rest) × PieceSpelled p q
 
   module _ {A : Type 0} {r : List ℕ → Read ℕ A} {t : A → List ℕ} {L : A → Type 0} (U : Sound r t L) where
@@ -165,14 +165,14 @@ module _ (p : Program) where
   -- ---- a whole line
 
   -- a piece, or no line of the format
-  LineIs : List ℕ → Piece → Type 0
+  abbrev LineIs : List ℕ → Piece → Type 0
   LineIs line q = ((line ≡ line_of p q) × PieceSpelled p q) ⊎ (q ≡ No_line)
 
   line_is : (line : List ℕ) → LineIs line (piece_of p line)
   unfolding piece_of
   line_is line = by_read (any_line_at p line) refl
     where
-      by_read : (r : Read ℕ Piece) → any_line_at p line ≡ r → LineIs line (ended r)
+      by_read : (r : Read ℕ Piece) → any_line_at p line ≡ r → LineIs line (ended p r)
       by_read (Err f) e = inr refl
       by_read (Ok x) e = by_end (bytes_eq x.1 (10 ∷ [])) refl
         where

@@ -88,7 +88,7 @@ module _ (p : Program) where
   data_sound = sound_word (data_at p) (data_of p) (data_text p) (λ d. d < length p.varieties) (λ bytes. refl) data_was
 
   -- a word that is a type
-  WordIs : List ℕ → Ty ℕ → Type 0
+  abbrev WordIs : List ℕ → Ty ℕ → Type 0
   WordIs word t = (word ≡ type_text p t) × FitsType p (λ n. n < 2 ^ 32) t × (depth_of t ≡ 0)
 
   word_was_type : (word : List ℕ) (t : Ty ℕ) → word_type word ≡ Some t → WordIs word t
@@ -224,11 +224,11 @@ module _ (p : Program) where
     unfolding many_at
     many_was zero bytes rest atoms e = none_are bytes rest atoms e
     many_was (suc n) [] rest atoms e = none_are [] rest atoms e
-    many_was (suc n) (b ∷ bytes) rest atoms e = by_test (is_space b) e
+    many_was (suc n) (b ∷ bytes) rest atoms e = by_test (is_space b) (many_was n) e
       where
-        by_test : (t : Bool) → (if t then (next_atom_by p inner (b ∷ bytes) >>= λ x. many_at is_space (next_atom_by p inner) n x.1 >>= λ xs. Ok (x.0 ∷ xs.0, xs.1)) else Ok ([], b ∷ bytes)) ≡ Ok (atoms, rest) → MoreAre d (b ∷ bytes) rest atoms
-        by_test false h = none_are (b ∷ bytes) rest atoms h
-        by_test true h = one_more n (b ∷ bytes) rest atoms (many_was n) h
+        by_test : (t : Bool) → ((more left : List ℕ) (others : List (Atom ℕ)) → many_at is_space (next_atom_by p inner) n more ≡ Ok (others, left) → MoreAre d more left others) → (if t then (next_atom_by p inner (b ∷ bytes) >>= λ x. many_at is_space (next_atom_by p inner) n x.1 >>= λ xs. Ok (x.0 ∷ xs.0, xs.1)) else Ok ([], b ∷ bytes)) ≡ Ok (atoms, rest) → MoreAre d (b ∷ bytes) rest atoms
+        by_test false more h = none_are (b ∷ bytes) rest atoms h
+        by_test true more h = one_more n (b ∷ bytes) rest atoms more h
 
     atoms_were : (bytes rest : List ℕ) (atoms : List (Atom ℕ)) → atoms_by p inner bytes ≡ Ok (atoms, rest) → AtomsAre d bytes rest atoms
     unfolding atoms_by

@@ -4,7 +4,7 @@ use Rattle.std.proofs.Common.{◌≡◌, ◌==◌, ◌≤◌, ◌<◌, ◌+◌, 
 use Rattle.mz_grammar.specs.Brackets.{no_brackets, room}
 use Rattle.mz_grammar.specs.Reading.{Read, Wrong, Deep}
 use Rattle.mz_grammar.specs.Relations.{OneToken}
-use Rattle.mz_grammar.specs.Readers.{Any}
+use Rattle.mz_grammar.specs.Readers.{Any, Reads}
 use Rattle.mz_grammar.specs.Answers.{Stopped, Unexpected, Too_deep, No_memory, Stops}
 use Rattle.mz_grammar.specs.Contract.{IsRight}
 use Rattle.mz_grammar.specs.Wholes.{Begins, BreaksAt, Fits, IsFirstWrong}
@@ -45,7 +45,7 @@ fun_says name No_line e = cc
 
 -- ---- lines and bytes
 
-joined : List (List ℕ) → List ℕ
+abbrev joined : List (List ℕ) → List ℕ
 joined [] = []
 joined (l ∷ ls) = l ++ joined ls
 
@@ -152,7 +152,7 @@ module _ (p : Program) (S : Scoped p) where
 
   -- ---- what the reader on lists answers for whole scripts
 
-  reads : _
+  reads : Reads no_brackets (script_by (piece_of p) p.funs) (ScriptText (piece_of p) p.funs) Any 0 0
   reads = script_reads (piece_of p) Worded (has_lines p S) p.funs (names_are_words p S)
 
   right : (ts : List (List ℕ)) → IsRight no_brackets 0 (ScriptText (piece_of p) p.funs) (λ stopped. stopped) ts (whole (script_by (piece_of p) p.funs) ts)

@@ -46,6 +46,7 @@ fn fields<'a>(alloc: Global, fields: &[Field], bytes: &'a [u8]) -> Result<(Names
 }
 
 // The names of the fields of a constructor.
+#[tactic(auto, unfolding(crate::specs::ReadWords::fields_at))]
 fn con_names<'a>(
     alloc: Global,
     program: &Program,
