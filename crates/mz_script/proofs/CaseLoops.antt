@@ -13,7 +13,7 @@ use Rattle.mz_tree.proofs.CodeViews.{plain_case_is}
 use Rattle.mz_deriv.specs.Scripts.{ScriptCase, ScriptCases, No_script_cases, More_script_cases, script_cases_of}
 use Rattle.mz_script.specs.Pieces.{Piece}
 use Rattle.mz_script.specs.Places.{Walked, has_case, numbered_by, walked_by, walks}
-use Rattle.mz_script.specs.Reading.{case_by, cases_by, commands_by, join_at, join_by, match_by, op_by}
+use Rattle.mz_script.specs.Reading.{case_by, cases_by, commands_by, join_by, match_by, op_by}
 use Rattle.mz_script.proofs.Bodies.{stops_then, stops_same}
 
 -- the cases that are left begin with the next
@@ -117,8 +117,3 @@ module _ {T : Type 0} where
     pub cases_done : (front : List ScriptCase) (ts : List T) → with_cases front (cases_by piece numbered walked No_cases ts) ≡ Ok (script_cases_of front, ts)
     unfolding cases_by
     cases_done front ts = ap (λ l. Ok (l, ts)) (before_none front)
-
--- where a case is, a join is behind it
-pub join_some : {T : Type 0} (piece : T → Piece) (cs : List ScriptCase) (ts : List T) → (length cs ≡ 0 → ⊥) → join_by piece (script_cases_of cs) ts ≡ join_at piece ts
-join_some piece [] ts some = absurd (some refl)
-join_some piece (c ∷ cs) ts some = refl

@@ -24,3 +24,4 @@ pub mod FieldLoops
 pub mod SoundLines
 pub mod WholeScripts
 pub mod Settling
+pub mod ReaderParts

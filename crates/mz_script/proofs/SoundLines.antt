@@ -183,7 +183,7 @@ module _ (p : Program) where
   pub line_says : (line : List ℕ) (q : Piece) → piece_of p line ≡ q → (q ≡ No_line → ⊥) → (line ≡ line_of p q) × PieceSpelled p q
   line_says line q e some = elim (line_is line) [
     | inl w ↦ subst (λ r. (line ≡ line_of p r) × PieceSpelled p r) e w
-    | inr no ↦ absurd (some (sym e ∙ no))
+    | inr none ↦ absurd (some (sym e ∙ none))
   ]
 
   pub sayable : (line : List ℕ) → Sayable p (piece_of p line)
@@ -193,8 +193,8 @@ module _ (p : Program) where
       by_piece No_line h = tt
       by_piece Head_line h = tt
       by_piece End_line h = tt
-      by_piece (Fun_line name) h = elim h [ | inl w ↦ w.1 | inr no ↦ cc ]
-      by_piece (Step_line s) h = elim h [ | inl w ↦ w.1 | inr no ↦ cc ]
-      by_piece (Do_line uses) h = elim h [ | inl w ↦ w.1 | inr no ↦ cc ]
-      by_piece (Case_line n) h = elim h [ | inl w ↦ w.1 | inr no ↦ cc ]
-      by_piece (Join_line atoms) h = elim h [ | inl w ↦ w.1 | inr no ↦ cc ]
+      by_piece (Fun_line name) h = elim h [ | inl w ↦ w.1 | inr none ↦ cc ]
+      by_piece (Step_line s) h = elim h [ | inl w ↦ w.1 | inr none ↦ cc ]
+      by_piece (Do_line uses) h = elim h [ | inl w ↦ w.1 | inr none ↦ cc ]
+      by_piece (Case_line n) h = elim h [ | inl w ↦ w.1 | inr none ↦ cc ]
+      by_piece (Join_line atoms) h = elim h [ | inl w ↦ w.1 | inr none ↦ cc ]

@@ -77,12 +77,7 @@ module _ {T : Type 0} (piece : T → Piece) where
   unfoldable pub point_by : Op → List T → Read T (List Item)
   point_by op = bind seen_at (λ front. bind do_at (λ uses. bind (op_by op uses) (λ b. done (front ++ Do_item uses b.0 b.1 ∷ []))))
 
-  -- what an if and a match bring
-  unfoldable pub both_by : Body → Body → List T → Read T (ScriptCases × List (Atom ℕ))
-  both_by on_true on_false =
-      bind (case_by false on_true) (λ yes. bind (case_by false on_false) (λ no.
-      bind join_at (λ join. done (More_script_cases yes (More_script_cases no No_script_cases), join))))
-
+  -- what a match brings
   unfoldable pub match_by : Option (Atom ℕ) → Cases → List T → Read T (ScriptCases × List (Atom ℕ))
   match_by uses all = bind (cases_by (numbered_by uses) (walked_by uses all) all) (λ cs. bind (join_by cs) (λ join. done (cs, join)))
 

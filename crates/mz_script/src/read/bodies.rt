@@ -11,7 +11,7 @@ ghost use Rattle.mz_script.specs.Cutting.{lines};
 ghost use Rattle.mz_script.specs.Pieces.{Case_line};
 ghost use Rattle.mz_script.specs.Places.{cases, has_case, numbered_by, walked_by, walked_of, walks};
 ghost use Rattle.mz_script.specs.ReadLines.{piece_of};
-ghost use Rattle.mz_script.specs.Reading.{both_by, case_at, case_by, cases_by, commands_by, do_at, end_at, join_at, join_by, match_by, op_by, point_by, seen_at};
+ghost use Rattle.mz_script.specs.Reading.{case_at, case_by, cases_by, commands_by, do_at, end_at, join_at, join_by, match_by, op_by, point_by, seen_at};
 ghost use Rattle.mz_script.specs.Stops.{Gives};
 
 use crate::read::line::{as_case, as_do, as_join, as_step, is_end};
@@ -211,28 +211,6 @@ fn maybe_join<'a>(
     join_line(alloc, program, bytes)
 }
 
-// The scripts of an if.
-#[cycle(bodies)]
-#[tactic(auto, unfolding(crate::specs::Reading::both_by))]
-fn both_cases<'a>(
-    alloc: Global,
-    program: &Program,
-    yes: &Body,
-    other: &Body,
-    bytes: &'a [u8],
-) -> Result<(ScriptCases, Atoms, &'a [u8]), Stop>
-    requires scoped { Scoped (plain_program program.now) }
-    ensures { Gives (λ x. ((script_cases_of (map plain_script_case x.0), plain_atoms x.1), lines x.2.now)) result (both_by (piece_of (plain_program program.now)) (plain_body yes.now) (plain_body other.now) (lines bytes.now)) }
-{
-    let (first, rest) = case(alloc, program, false, yes, bytes)?;
-    let (second, rest) = case(alloc, program, false, other, rest)?;
-    let (join, rest) = join_line(alloc, program, rest)?;
-    let mut cases = Items::new(alloc);
-    cases.push(first)?;
-    cases.push(second)?;
-    Ok((cases, join, rest))
-}
-
 // The scripts of a match.
 #[cycle(bodies)]
 #[tactic(auto, unfolding(crate::specs::Reading::match_by))]
@@ -282,7 +260,7 @@ fn some_cases<'a>(
 
 // What the `do` of an operation brings.
 #[cycle(bodies)]
-#[tactic(auto, unfolding(crate::specs::Reading::commands_by, crate::specs::Reading::both_by))]
+#[tactic(auto, unfolding(crate::specs::Reading::commands_by))]
 fn brought<'a>(
     alloc: Global,
     program: &Program,
@@ -294,7 +272,15 @@ fn brought<'a>(
     ensures { Gives (λ x. ((script_cases_of (map plain_script_case x.0), plain_atoms x.1), lines x.2.now)) result (op_by (piece_of (plain_program program.now)) (plain_op op.now) (option_map plain_atom uses.now) (lines bytes.now)) }
 {
     match op {
-        Op::If { yes, other, .. } => both_cases(alloc, program, yes, other, bytes),
+        Op::If { yes, other, .. } => {
+            let (first, rest) = case(alloc, program, false, yes, bytes)?;
+            let (second, rest) = case(alloc, program, false, other, rest)?;
+            let (join, rest) = join_line(alloc, program, rest)?;
+            let mut cases = Items::new(alloc);
+            cases.push(first)?;
+            cases.push(second)?;
+            Ok((cases, join, rest))
+        }
         Op::Match { cases, .. } => match_cases(alloc, program, cases.as_slice(), uses, bytes),
         _ => Ok((Items::new(alloc), Items::new(alloc), bytes)),
     }

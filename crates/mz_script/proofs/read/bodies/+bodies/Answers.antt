@@ -1,4 +1,4 @@
-use Rattle.std.proofs.Common.{[], ◌∷◌, ◌++◌, map, drop, ◌+◌, Ok, Err, option_map, sym, ap, ◌∙◌, arith}
+use Rattle.std.proofs.Common.{[], ◌∷◌, ◌++◌, map, drop, ◌+◌, Ok, Err, option_map, sym, ap, subst, ◌∙◌, arith}
 use Rattle.std.proofs.lemmas.Result.{err_from_is_err_and}
 use Rattle.mz_tree.specs.Code.{Body, cases_of, commands_of}
 use Rattle.mz_tree.specs.View.{plain_atom, plain_atoms, plain_cases, plain_commands, plain_op}
@@ -18,6 +18,10 @@ use Rattle.mz_deriv.proofs.Views.{plain_do}
 use Rattle.mz_script.proofs.Bodies.{case_done, case_stops, point_done, stops_same, hands_on, next_commands, no_commands, command_read, command_stops, last_done, last_unseen, last_unended}
 use Rattle.mz_script.specs.Places.{walked_of}
 use Rattle.mz_script.proofs.CaseLoops.{next_case, no_case_left, with_cases, case_read, case_stopped, case_passed, cases_done}
+use Rattle.mz_script.specs.Reading.{op_by}
+use Rattle.mz_script.specs.Stops.{Gives}
+use Rattle.mz_tree.proofs.CodeViews.{plain_match}
+use Rattle.mz_script.proofs.CaseLoops.{match_is}
 use Rattle.mz_script.proofs.read.bodies.+bodies.Goals as goal
 
 pub case-returns-in_err-items : goal.case-returns-in_err-items
@@ -97,3 +101,11 @@ some_cases-returns t c =
     let none = no_case_left c.args.cases.now c.loop-i.i (omega arith) in
     sym c.loop-i.invariant ∙ ap (λ l. with_cases (map plain_script_case c.loop-i.scripts) (cases_by (piece_of (plain_program c.args.program.now)) c.args.numbered (walked_of c.args.walked) l (lines c.loop-i.rest.now))) none
     ∙ cases_done (piece_of (plain_program c.args.program.now)) c.args.numbered (walked_of c.args.walked) (map plain_script_case c.loop-i.scripts) (lines c.loop-i.rest.now)
+
+pub brought-returns-in-Match : goal.brought-returns-in-Match
+brought-returns-in-Match t c =
+    let p = piece_of (plain_program c.args.program.now) in
+    let uses = option_map plain_atom c.args.uses.now in
+    subst (λ r. Gives (λ x. ((script_cases_of (map plain_script_case x.0), plain_atoms x.1), lines x.2.now)) c.match_cases.result r)
+    (sym (ap (λ o. op_by p (plain_op o) uses (lines c.args.bytes.now)) c.in-Match.is ∙ ap (λ o. op_by p o uses (lines c.args.bytes.now)) (plain_match _ _ c.in-Match.cases _) ∙ match_is p _ _ _ _ uses (lines c.args.bytes.now)))
+    c.match_cases.ensures

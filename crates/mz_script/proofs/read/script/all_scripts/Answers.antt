@@ -8,8 +8,8 @@ returns-in-Err c = settled_stop (plain_program c.args.program.now) c.requires.sc
 
 -- it read all
 pub returns-then-rest-eq0 : goal.returns-then-rest-eq0
-returns-then-rest-eq0 c = settled_end (plain_program c.args.program.now) c.requires.scoped c.args.bytes.now _ _ c.if-rest-eq0.true c.in-Ok.ensures
+returns-then-rest-eq0 c = settled_end (plain_program c.args.program.now) c.requires.scoped c.args.bytes.now c.in-Ok.rest.now _ c.if-rest-eq0.true c.in-Ok.ensures
 
 -- it left some
 pub returns-else-rest-eq0 : goal.returns-else-rest-eq0
-returns-else-rest-eq0 c = settled_more (plain_program c.args.program.now) c.requires.scoped c.args.bytes.now _ _ _ (some_lines _ c.if-rest-eq0.false) c.count.ensures c.in-Ok.ensures
+returns-else-rest-eq0 c = settled_more (plain_program c.args.program.now) c.requires.scoped c.args.bytes.now c.in-Ok.rest.now _ _ (some_lines c.in-Ok.rest.now c.if-rest-eq0.false) c.count.ensures c.in-Ok.ensures
