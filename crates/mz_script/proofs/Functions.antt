@@ -9,8 +9,8 @@ use Rattle.mz_tree.specs.View.{plain_fun}
 use Rattle.mz_tree.specs.declared.program.Fun.{Fun as CodeFun}
 use Rattle.mz_deriv.specs.Scripts.{Item}
 use Rattle.mz_script.specs.Pieces.{Piece}
-use Rattle.mz_script.specs.Places.{begins_fun, body_commands, line}
-use Rattle.mz_script.specs.Reading.{commands_by, fun_at, fun_by, funs_by}
+use Rattle.mz_script.specs.Places.{begins_fun, body_commands, heads, line}
+use Rattle.mz_script.specs.Reading.{commands_by, fun_at, fun_by, funs_by, head_at, script_by}
 use Rattle.mz_script.proofs.Bodies.{stops_then, stops_same}
 
 -- the functions that are left begin with the next
@@ -52,3 +52,12 @@ module _ {T : Type 0} (piece : T → Piece) where
   pub funs_done : (front : List (List Item)) (ts : List T) → with_front front (funs_by piece [] ts) ≡ Ok (front, ts)
   unfolding funs_by
   funs_done front ts = ap (λ l. Ok (l, ts)) (append-nil front)
+
+  -- the first line, and then the functions
+  pub front_is : (funs : List Fun) (ts : List T) → script_by piece funs ts ≡ (head_at piece ts >>= λ t. funs_by piece funs t.1)
+  unfolding head_at
+  front_is funs ts = by_line (token_at (line piece heads) ts)
+    where
+      by_line : (r : Read T T) → (r >>= λ t. funs_by piece funs t.1) ≡ ((r >>= λ t. Ok (tt {0}, t.1)) >>= λ t. funs_by piece funs t.1)
+      by_line (Err e) = refl
+      by_line (Ok t) = refl

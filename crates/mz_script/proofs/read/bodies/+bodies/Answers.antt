@@ -18,7 +18,7 @@ use Rattle.mz_deriv.proofs.Views.{plain_do}
 use Rattle.mz_script.proofs.Bodies.{case_done, case_stops, point_done, stops_same, hands_on, next_commands, no_commands, command_read, command_stops, last_done, last_unseen, last_unended}
 use Rattle.mz_script.specs.Places.{walked_of}
 use Rattle.mz_script.proofs.CaseLoops.{next_case, no_case_left, with_cases, case_read, case_stopped, case_passed, cases_done}
-use Rattle.mz_script.specs.Reading.{op_by}
+use Rattle.mz_script.specs.Reading.{match_by, op_by}
 use Rattle.mz_script.specs.Stops.{Gives}
 use Rattle.mz_tree.proofs.CodeViews.{plain_match}
 use Rattle.mz_script.proofs.CaseLoops.{match_is}
@@ -107,5 +107,5 @@ brought-returns-in-Match t c =
     let p = piece_of (plain_program c.args.program.now) in
     let uses = option_map plain_atom c.args.uses.now in
     subst (λ r. Gives (λ x. ((script_cases_of (map plain_script_case x.0), plain_atoms x.1), lines x.2.now)) c.match_cases.result r)
-    (sym (ap (λ o. op_by p (plain_op o) uses (lines c.args.bytes.now)) c.in-Match.is ∙ ap (λ o. op_by p o uses (lines c.args.bytes.now)) (plain_match _ _ c.in-Match.cases _) ∙ match_is p _ _ _ _ uses (lines c.args.bytes.now)))
+    (sym (ap (λ o. op_by p (plain_op o) uses (lines c.args.bytes.now)) c.in-Match.is ∙ ap (λ o. op_by p o uses (lines c.args.bytes.now)) (plain_match _ _ c.in-Match.cases _) ∙ match_is p _ _ _ _ uses (lines c.args.bytes.now) ∙ ap (λ l. match_by p uses (cases_of (plain_cases l)) (lines c.args.bytes.now)) (sym c.as_slice.ensures)))
     c.match_cases.ensures

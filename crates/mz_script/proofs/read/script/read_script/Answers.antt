@@ -12,7 +12,7 @@ pub returns-in-Ok-clause-tells : goal.returns-in-Ok-clause-tells
 returns-in-Ok-clause-tells c n w = no_text (plain_program c.args.program.now) c.requires.scoped c.args.bytes.now n _ w (is_text (plain_program c.args.program.now) c.requires.scoped c.args.bytes.now c.in-Ok.scripts c.in-Ok.ensures)
 
 pub returns-in-Err-Unexpected-clause-gives : goal.returns-in-Err-Unexpected-clause-gives
-returns-in-Err-Unexpected-clause-gives c scripts is = no_text (plain_program c.args.program.now) c.requires.scoped c.args.bytes.now c.number.result scripts (is_wrong (plain_program c.args.program.now) c.requires.scoped c.args.bytes.now _ c.number.result c.in-Err-Unexpected.ensures c.number.ensures) is
+returns-in-Err-Unexpected-clause-gives c scripts is = no_text (plain_program c.args.program.now) c.requires.scoped c.args.bytes.now c.number.result scripts (is_wrong (plain_program c.args.program.now) c.requires.scoped c.args.bytes.now c.in-Err-Unexpected.left c.number.result c.in-Err-Unexpected.ensures c.number.ensures) is
 
 pub returns-in-Err-Unexpected-clause-tells : goal.returns-in-Err-Unexpected-clause-tells
-returns-in-Err-Unexpected-clause-tells c n w = same_line (plain_program c.args.program.now) c.requires.scoped c.args.bytes.now c.number.result n (is_wrong (plain_program c.args.program.now) c.requires.scoped c.args.bytes.now _ c.number.result c.in-Err-Unexpected.ensures c.number.ensures) w
+returns-in-Err-Unexpected-clause-tells c n w = same_line (plain_program c.args.program.now) c.requires.scoped c.args.bytes.now c.number.result n (is_wrong (plain_program c.args.program.now) c.requires.scoped c.args.bytes.now c.in-Err-Unexpected.left c.number.result c.in-Err-Unexpected.ensures c.number.ensures) w
