@@ -8,7 +8,7 @@ NoEnd [] = Unit {0}
 NoEnd (b ∷ bytes) = ((b == 10) ≡ false) × NoEnd bytes
 
 -- a byte that ends no line stands before the first line
-goes_on : (b : ℕ) (bytes : List ℕ) → (b == 10) ≡ false → lines (b ∷ bytes) ≡ before_first b (lines bytes)
+pub goes_on : (b : ℕ) (bytes : List ℕ) → (b == 10) ≡ false → lines (b ∷ bytes) ≡ before_first b (lines bytes)
 goes_on b bytes e = ap (λ t. if t then (10 ∷ []) ∷ lines bytes else before_first b (lines bytes)) e
 
 -- up to the first line end

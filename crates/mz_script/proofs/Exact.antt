@@ -113,7 +113,7 @@ module _ (p : Program) (S : Scoped p) where
   says_lines (q ∷ ps) (one, h) = ap (λ r. r ∷ map (piece_of p) (map (line_of p) ps)) (piece_is p (own_names p S) q one) ∙ ap (λ l. q ∷ l) (says_lines ps h)
 
   -- there is a line of each kind
-  has_lines : HasLines (piece_of p) Worded
+  pub has_lines : HasLines (piece_of p) Worded
   has_lines =
       let N = own_names p S in
       record {

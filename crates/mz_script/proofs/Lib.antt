@@ -13,3 +13,15 @@ pub mod ProgramNames
 pub mod Exact
 pub mod Cuts
 pub mod NoEnds
+pub mod FirstLines
+pub mod ReadFronts
+pub mod Walking
+pub mod Bodies
+pub mod Functions
+pub mod CaseLoops
+pub mod SoundTypes
+pub mod FieldLoops
+pub mod SoundLines
+pub mod WholeScripts
+pub mod Settling
+pub mod ReaderParts

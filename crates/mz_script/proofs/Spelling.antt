@@ -102,11 +102,11 @@ Says piece ts ps = map piece ts ≡ ps
 
 module _ (p : Program) {T : Type 0} (piece : T → Piece) (sayable : (t : T) → Sayable p (piece t)) where
   -- one line
-  one_says : (kind : Piece → Bool) (ts : List T) (t : T) (q : Piece) → OneToken (line piece kind) ts t → piece t ≡ q → Says piece ts (q ∷ [])
+  pub one_says : (kind : Piece → Bool) (ts : List T) (t : T) (q : Piece) → OneToken (line piece kind) ts t → piece t ≡ q → Says piece ts (q ∷ [])
   one_says kind ts t q (e, is) says = ap (map piece) e ∙ ap (λ r. r ∷ []) says
 
   -- two fronts
-  two_say : (ts x y : List T) (ps qs : List Piece) → ts ≡ x ++ y → Says piece x ps → Says piece y qs → Says piece ts (ps ++ qs)
+  pub two_say : (ts x y : List T) (ps qs : List Piece) → ts ≡ x ++ y → Says piece x ps → Says piece y qs → Says piece ts (ps ++ qs)
   two_say ts x y ps qs e one two = ap (map piece) e ∙ map_append piece x y ∙ ap (λ l. l ++ map piece y) one ∙ ap (λ l. ps ++ l) two
 
   steps_say : (ts : List T) (ss : List Step) → StepsText piece ts ss → Says piece ts (map Step_line ss)

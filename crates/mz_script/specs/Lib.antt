@@ -9,3 +9,6 @@ pub mod Fronts
 pub mod ReadWords
 pub mod ReadLines
 pub mod Laws
+pub mod Stops
+pub mod Said
+pub mod Reads

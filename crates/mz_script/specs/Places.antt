@@ -1,7 +1,7 @@
 -- What may stand at a place of a script, what the line that stands there says, and which cases of a match stand there.
-use Rattle.std.specs.Prelude.{◌==◌, ℕ, Bool, true, false, List, [], ◌∷◌, Option, Some, None}
+use Rattle.std.specs.Prelude.{◌==◌, ℕ, Bool, true, false, List, [], ◌∷◌, Option, Some, None, if◌then◌else◌}
 use Rattle.mz_tree.specs.Plain.{Atom, Has_atom, Block_type}
-use Rattle.mz_tree.specs.Code.{Commands, Case, Cases, Body, The_body, case_list}
+use Rattle.mz_tree.specs.Code.{Commands, Case, Cases, Body, The_body, The_case, No_cases, More_cases, case_list}
 use Rattle.mz_view.specs.Steps.{Step, Unknown_step}
 use Rattle.mz_flow.specs.Branches.{known_cases}
 use Rattle.mz_deriv.specs.Scripts.{Item, See_item}
@@ -107,6 +107,21 @@ known_if con (c ∷ known) = Of_con con
 abbrev pub walked_by : Option (Atom ℕ) → Cases → Walked
 walked_by (Some (Has_atom x (Block_type con fields adopts))) all = known_if con (known_cases (Some (Has_atom x (Block_type con fields adopts))) (case_list all))
 walked_by _ all = All_cases
+
+-- the constructor whose cases alone have a script, if there is one
+abbrev pub walked_of : Option ℕ → Walked
+walked_of None = All_cases
+walked_of (Some con) = Of_con con
+
+-- whether a match has a case of the constructor
+abbrev pub has_case : ℕ → Cases → Bool
+has_case con No_cases = false
+has_case con (More_cases (The_case other body) rest) = if other == con then true else has_case con rest
+
+-- whether the cases of a match have numbers of their own, by what its `do` uses
+abbrev pub numbered_by : Option (Atom ℕ) → Bool
+numbered_by (Some (Has_atom x (Block_type con fields adopts))) = false
+numbered_by uses = true
 
 -- ---- items and bodies
 

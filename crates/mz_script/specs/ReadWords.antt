@@ -36,22 +36,35 @@ as_type type (Some n) = Some (type n)
 abbrev pub is_space : ℕ → Bool
 is_space b = b == 32
 
+-- the name that a field has, behind the field and what stands before it
+unfoldable pub field_by : List ℕ → List ℕ → List ℕ → Read ℕ ℕ
+field_by before field bytes = text_at before bytes >>= λ a. text_at field a.1 >>= λ b. text_at (codes " = ") b.1 >>= λ c. name_at c.1
+
 -- the names of a constructor's fields, each behind its field
 unfoldable pub fields_at : List ℕ → List Field → List ℕ → Read ℕ (List ℕ)
 fields_at before [] bytes = Ok ([], bytes)
 fields_at before (f ∷ fields) bytes =
     text_at before bytes >>= λ a. text_at f.name a.1 >>= λ b. text_at (codes " = ") b.1 >>= λ c. name_at c.1 >>= λ n. fields_at (codes "; ") fields n.1 >>= λ ns. Ok (n.0 ∷ ns.0, ns.1)
 
+-- the number of a declaration by its name
+abbrev pub variety_named : List Variety → List ℕ → Option ℕ
+variety_named varieties word = number_in (map (λ (v : Variety). v.name) varieties) word
+
+abbrev pub sig_named : List Sig → List ℕ → Option ℕ
+sig_named sigs word = number_in (map (λ (s : Sig). s.name) sigs) word
+
+abbrev pub con_named : List Con → List ℕ → Option ℕ
+con_named cons word = number_in (map (λ (c : Con). c.name) cons) word
+
 module _ (p : Program) where
-  -- the number of a data type by its name
   unfoldable pub data_of : List ℕ → Option ℕ
-  data_of word = number_in (map (λ (v : Variety). v.name) p.varieties) word
+  data_of word = variety_named p.varieties word
 
   unfoldable pub sig_of : List ℕ → Option ℕ
-  sig_of word = number_in (map (λ (s : Sig). s.name) p.sigs) word
+  sig_of word = sig_named p.sigs word
 
   unfoldable pub con_of : List ℕ → Option ℕ
-  con_of word = number_in (map (λ (c : Con). c.name) p.cons) word
+  con_of word = con_named p.cons word
 
   unfoldable pub data_at : List ℕ → Read ℕ ℕ
   data_at bytes = word_at bytes >>= λ w. found_or bytes w.1 (data_of w.0)

@@ -9,7 +9,7 @@ use Rattle.mz_view.specs.Steps.{Step}
 use Rattle.mz_deriv.specs.Spelled.{has_number}
 use Rattle.mz_deriv.specs.Scripts.{Item, ScriptCase, ScriptCases, Do_item, Script_case, No_script_cases, More_script_cases, items_of}
 use Rattle.mz_script.specs.Pieces.{Piece}
-use Rattle.mz_script.specs.Places.{heads, begins_fun, steps, does, cases, joins, ends, step_in, uses_in, number_in, atoms_in, Walked, walks, walked_by, seen, body_commands, line}
+use Rattle.mz_script.specs.Places.{heads, begins_fun, steps, does, cases, joins, ends, step_in, uses_in, number_in, atoms_in, Walked, walks, walked_by, numbered_by, seen, body_commands, line}
 
 module _ {T : Type 0} (piece : T → Piece) where
   abbrev pub step_at : List T → Read T Step
@@ -76,3 +76,17 @@ module _ {T : Type 0} (piece : T → Piece) where
   -- what stands for one command
   unfoldable pub point_by : Op → List T → Read T (List Item)
   point_by op = bind seen_at (λ front. bind do_at (λ uses. bind (op_by op uses) (λ b. done (front ++ Do_item uses b.0 b.1 ∷ []))))
+
+  -- what a match brings
+  unfoldable pub match_by : Option (Atom ℕ) → Cases → List T → Read T (ScriptCases × List (Atom ℕ))
+  match_by uses all = bind (cases_by (numbered_by uses) (walked_by uses all) all) (λ cs. bind (join_by cs) (λ join. done (cs, join)))
+
+  -- the first line, the line of a function, and the script of a function
+  unfoldable pub head_at : List T → Read T (Unit {0})
+  head_at = bind (token_at (line piece heads)) (λ t. done tt)
+
+  unfoldable pub fun_at : List ℕ → List T → Read T (Unit {0})
+  fun_at name = bind (token_at (line piece (begins_fun name))) (λ t. done tt)
+
+  unfoldable pub fun_by : Fun → List T → Read T (List Item)
+  fun_by f = bind (fun_at f.name) (λ t. commands_by (body_commands f.body))

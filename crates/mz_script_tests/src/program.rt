@@ -1,0 +1,29 @@
+//! The programs of which texts of derivations are read.
+ghost use Rattle.std.specs.Prelude.{IfSome};
+ghost use Rattle.mz_tree.specs.Scoped.{Scoped};
+ghost use Rattle.mz_tree.specs.View.{plain_program};
+
+use mz_parse::parse;
+use mz_scope::resolve;
+use mz_token::tokens;
+use mz_tree::Program;
+use std::alloc::Global;
+
+/// The program of a source of at most 1,000,000 bytes, if it has one and memory suffices.
+pub(crate) fn program(alloc: Global, source: &[u8]) -> Option<Program>
+    ensures { IfSome result (λ p. Scoped (plain_program p)) }
+{
+    if source.len() > 1_000_000 {
+        return None;
+    }
+    match tokens(alloc, source) {
+        Err(_) => None,
+        Ok(found) => match parse(alloc, &found) {
+            Err(_) => None,
+            Ok(surface) => match resolve(alloc, &surface) {
+                Err(_) => None,
+                Ok(program) => Some(program),
+            },
+        },
+    }
+}
