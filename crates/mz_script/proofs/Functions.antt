@@ -5,6 +5,7 @@ use Rattle.mz_grammar.specs.Reading.{Read, ◌>>=◌, token_at}
 use Rattle.mz_grammar.specs.Answers.{Stopped, Stops}
 use Rattle.mz_grammar.proofs.Loops.{with_front}
 use Rattle.mz_tree.specs.Programs.{Fun}
+use Rattle.mz_tree.specs.Code.{Commands}
 use Rattle.mz_tree.specs.View.{plain_fun}
 use Rattle.mz_tree.specs.declared.program.Fun.{Fun as CodeFun}
 use Rattle.mz_deriv.specs.Scripts.{Item}
@@ -33,6 +34,20 @@ module _ {T : Type 0} (piece : T → Piece) where
           (((r >>= λ t. Ok (tt {0}, t.1)) >>= λ t. commands_by piece (body_commands f.body) t.1) >>= λ x. funs_by piece rest x.1 >>= λ y. Ok (x.0 ∷ y.0, y.1))
       by_line (Err e) = refl
       by_line (Ok t) = refl
+
+  -- one function: its line, and its commands
+  fun_is : (f : Fun) (ts : List T) → fun_by piece f ts ≡ (fun_at piece f.name ts >>= λ t. commands_by piece (body_commands f.body) t.1)
+  unfolding fun_by
+  fun_is f ts = refl
+
+  behind_line : (f : Fun) (all : Commands) (ts r : List T) → body_commands f.body ≡ all → fun_at piece f.name ts ≡ Ok (tt {0}, r) → fun_by piece f ts ≡ commands_by piece all r
+  behind_line f all ts r same one = fun_is f ts ∙ ap (λ s. s >>= λ t. commands_by piece (body_commands f.body) t.1) one ∙ ap (λ c. commands_by piece c r) same
+
+  pub fun_done : (f : Fun) (all : Commands) (ts r q : List T) (items : List Item) → body_commands f.body ≡ all → fun_at piece f.name ts ≡ Ok (tt {0}, r) → commands_by piece all r ≡ Ok (items, q) → fun_by piece f ts ≡ Ok (items, q)
+  fun_done f all ts r q items same one two = behind_line f all ts r same one ∙ two
+
+  pub fun_ends : (f : Fun) (all : Commands) (s : Stopped) (ts r : List T) → body_commands f.body ≡ all → fun_at piece f.name ts ≡ Ok (tt {0}, r) → Stops s (commands_by piece all r) → Stops s (fun_by piece f ts)
+  fun_ends f all s ts r same one stop = stops_same s (commands_by piece all r) (fun_by piece f ts) (sym (behind_line f all ts r same one)) stop
 
   moved : (front : List (List Item)) (one : List Item) (r : Read T (List (List Item))) → with_front front (r >>= λ y. Ok (one ∷ y.0, y.1)) ≡ with_front (front ++ one ∷ []) r
   moved front one (Ok x) = ap (λ l. Ok (l, x.1)) (sym (append_assoc front (one ∷ []) x.0))

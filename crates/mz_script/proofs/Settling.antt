@@ -13,7 +13,7 @@ use Rattle.mz_script.specs.Cutting.{before_first, lines}
 use Rattle.mz_script.specs.Texts.{IsScript, IsScriptText, IsWrongLine}
 use Rattle.mz_script.specs.Reading.{script_by}
 use Rattle.mz_script.specs.ReadLines.{piece_of}
-use Rattle.mz_script.specs.Reads.{GivesScripts, HasCause, Settles, TellsLine}
+use Rattle.mz_script.specs.Reads.{GivesScripts, HasCause, Settles, TellsLine, IsFaultOf}
 use Rattle.mz_script.specs.Stops.{cause}
 use Rattle.mz_script.specs.declared.fault.ScriptFault.{ScriptFault}
 use Rattle.mz_script.specs.declared.fault.ScriptFault.TheVariants.{Line, Memory}
@@ -55,6 +55,25 @@ module _ (p : Program) (S : Scoped p) (bytes : List ℕ) where
 
   pub same_line : (m n : ℕ) → IsWrongLine p bytes m → IsWrongLine p bytes n → m ≡ n
   same_line m n one two = one_wrong_line p S bytes m n one two
+
+  -- what comes of a stop
+  pub stop_cause : (stop : Stop) (fault : ScriptFault) → Settles p bytes (Err stop) → IsFaultOf bytes stop fault → HasCause p bytes fault
+  stop_cause (Unexpected left) (Line n) h e = is_wrong left n h e
+  stop_cause (Unexpected left) Memory h e = tt
+  stop_cause NoMemory (Line n) h e = absurd e
+  stop_cause NoMemory Memory h e = tt
+
+  pub stop_gives : (stop : Stop) (fault : ScriptFault) → Settles p bytes (Err stop) → IsFaultOf bytes stop fault → (scripts : List (List Item)) → IsScriptText p bytes scripts → GivesScripts (Err fault) scripts
+  stop_gives (Unexpected left) (Line n) h e scripts is = no_text n scripts (is_wrong left n h e) is
+  stop_gives (Unexpected left) Memory h e scripts is = tt
+  stop_gives NoMemory (Line n) h e scripts is = absurd e
+  stop_gives NoMemory Memory h e scripts is = tt
+
+  pub stop_tells : (stop : Stop) (fault : ScriptFault) → Settles p bytes (Err stop) → IsFaultOf bytes stop fault → (n : ℕ) → IsWrongLine p bytes n → TellsLine (Err fault) n
+  stop_tells (Unexpected left) (Line m) h e n w = same_line m n (is_wrong left m h e) w
+  stop_tells (Unexpected left) Memory h e n w = tt
+  stop_tells NoMemory (Line m) h e n w = absurd e
+  stop_tells NoMemory Memory h e n w = tt
 
 -- bytes have a line
 pub some_lines : (rest : List ℕ) → (length rest ≡ 0 → ⊥) → lines rest ≡ [] → ⊥

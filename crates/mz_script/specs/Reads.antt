@@ -1,5 +1,5 @@
 -- What the call that reads a text of a derivation answers, and when.
-use Rattle.std.specs.Prelude.{◌≡◌, ℕ, List, map, Result, Ok, Err}
+use Rattle.std.specs.Prelude.{◌≡◌, ◌+◌, ◌-◌, ℕ, List, length, map, Result, Ok, Err}
 use Rattle.mz_grammar.specs.Brackets.{no_brackets}
 use Rattle.mz_grammar.specs.Wholes.{IsFirstWrong}
 use Rattle.mz_tree.specs.Programs.{Program}
@@ -36,3 +36,9 @@ abbrev pub Settles : Program → List ℕ → Result (List Script) Stop → Type
 Settles p bytes (Ok scripts) = IsScript p (lines bytes) (map plain_script scripts)
 Settles p bytes (Err (Unexpected left)) = IsFirstWrong no_brackets 0 (IsScript p) (lines bytes) left
 Settles p bytes (Err NoMemory) = Unit {0}
+
+-- the fault of a stop: the number of the line, from 1, from which so many are left
+abbrev pub IsFaultOf : List ℕ → Stop → ScriptFault → Type 0
+IsFaultOf bytes (Unexpected left) (Line n) = n ≡ (length (lines bytes) - left) + 1
+IsFaultOf bytes NoMemory Memory = Unit {0}
+IsFaultOf bytes stop fault = ⊥

@@ -7,7 +7,7 @@ ghost use Rattle.mz_deriv.specs.View.{plain_derivation, plain_script};
 ghost use Rattle.mz_script.specs.Cutting.{lines};
 ghost use Rattle.mz_script.specs.ReadLines.{piece_of};
 ghost use Rattle.mz_script.specs.Reading.{fun_at, fun_by, funs_by, head_at, script_by};
-ghost use Rattle.mz_script.specs.Reads.{GivesScripts, HasCause, Settles, TellsLine};
+ghost use Rattle.mz_script.specs.Reads.{GivesScripts, HasCause, IsFaultOf, Settles, TellsLine};
 ghost use Rattle.mz_script.specs.Stops.{Gives};
 ghost use Rattle.mz_script.specs.Texts.{IsScriptText, IsWrongLine};
 
@@ -124,13 +124,16 @@ fn all_scripts(alloc: Global, program: &Program, bytes: &[u8]) -> Result<Scripts
     }
 }
 
-// The number, from 1, of the line from which so many lines are left.
+// The fault of a stop: the number, from 1, of the line from which so many lines are left.
 #[tactic(auto, using(crate::proofs::WholeScripts::few_lines))]
-fn number(bytes: &[u8], left: usize) -> u32
+fn fault(bytes: &[u8], stop: Stop) -> ScriptFault
     requires { length bytes.now < 2 ^ 32 - 1 }
-    ensures { result ≡ (length (lines bytes.now) - left) + 1 }
+    ensures { IsFaultOf bytes.now stop result }
 {
-    (count(bytes).saturating_sub(left) + 1) as u32
+    match stop {
+        Stop::Unexpected(left) => ScriptFault::Line((count(bytes).saturating_sub(left) + 1) as u32),
+        Stop::Memory => ScriptFault::Memory,
+    }
 }
 
 /// The derivation of which fewer than 2^32-1 bytes are the text, for a program that was read. No bytes are the text of two.
@@ -152,7 +155,6 @@ pub fn read_script(
 {
     match all_scripts(alloc, program, bytes) {
         Ok(scripts) => Ok(Derivation { scripts }),
-        Err(Stop::Unexpected(left)) => Err(ScriptFault::Line(number(bytes, left))),
-        Err(Stop::Memory) => Err(ScriptFault::Memory),
+        Err(stop) => Err(fault(bytes, stop)),
     }
 }

@@ -1,4 +1,4 @@
-use Rattle.std.proofs.Common.{[], ◌∷◌, ◌++◌, map, drop, ◌+◌, Ok, Err, option_map, sym, ap, subst, ◌∙◌, arith}
+use Rattle.std.proofs.Common.{ℕ, List, Bor, [], ◌∷◌, ◌++◌, map, drop, ◌+◌, Ok, Err, option_map, sym, ap, subst, ◌∙◌, arith}
 use Rattle.std.proofs.lemmas.Result.{err_from_is_err_and}
 use Rattle.mz_tree.specs.Code.{Body, cases_of, commands_of}
 use Rattle.mz_tree.specs.View.{plain_atom, plain_atoms, plain_cases, plain_commands, plain_op}
@@ -23,6 +23,7 @@ use Rattle.mz_script.specs.Stops.{Gives}
 use Rattle.mz_tree.proofs.CodeViews.{plain_match}
 use Rattle.mz_script.proofs.CaseLoops.{match_is}
 use Rattle.mz_script.proofs.read.bodies.+bodies.Goals as goal
+use Rattle.mz_script.proofs.read.bodies.+bodies.Goals.{some_cases-then-has_script+in_ok-script+in_ok-push, some_cases-else-has_script}
 
 pub case-returns-in_err-items : goal.case-returns-in_err-items
 case-returns-in_err-items t c =
@@ -109,3 +110,26 @@ brought-returns-in-Match t c =
     subst (λ r. Gives (λ x. ((script_cases_of (map plain_script_case x.0), plain_atoms x.1), lines x.2.now)) c.match_cases.result r)
     (sym (ap (λ o. op_by p (plain_op o) uses (lines c.args.bytes.now)) c.in-Match.is ∙ ap (λ o. op_by p o uses (lines c.args.bytes.now)) (plain_match _ _ c.in-Match.cases _) ∙ match_is p _ _ _ _ uses (lines c.args.bytes.now) ∙ ap (λ l. match_by p uses (cases_of (plain_cases l)) (lines c.args.bytes.now)) (sym c.as_slice.ensures)))
     c.match_cases.ensures
+
+pub some_cases-loop-i-preserved : goal.some_cases-loop-i-preserved
+some_cases-loop-i-preserved t c =
+    let piece = piece_of (plain_program c.args.program.now) in
+    let walked = walked_of c.args.walked in
+    let left = cases_of (plain_cases (drop (c.loop-i.i + 1) c.args.cases.now)) in
+    let next = next_case c.args.cases.now c.loop-i.i c.index-cases-i.result c.loop-i-test.true c.index-cases-i.is in
+    let before = ap (λ l. with_cases (map plain_script_case c.loop-i.scripts) (cases_by piece c.args.numbered walked l (lines c.loop-i.rest.now))) (sym next) ∙ c.loop-i.invariant in
+    elim c.if-has_script.branch [
+      | some_cases-then-has_script+in_ok-script+in_ok-push w ↦ (
+        let read = case_read piece c.args.numbered walked _ _ left (map plain_script_case c.loop-i.scripts) (plain_script_case w.in_ok-script.script) (lines c.loop-i.rest.now) (lines w.in_ok-script.more.now) (sym c.has_script.ensures ∙ w.if-has_script.true) w.in_ok-script.ensures in
+        ap (λ s. with_cases (map plain_script_case s) (cases_by piece c.args.numbered walked left (lines c.if-has_script.rest.now))) w.scripts-is
+        ∙ ap (λ (r : Bor (List ℕ)). with_cases (map plain_script_case w.push.new.self) (cases_by piece c.args.numbered walked left (lines r.now))) w.rest-is
+        ∙ ap (λ l. with_cases l (cases_by piece c.args.numbered walked left (lines w.in_ok-script.more.now))) (ap (map plain_script_case) w.in_ok-push.ensures.ok ∙ map_append plain_script_case c.loop-i.scripts _)
+        ∙ sym read ∙ before
+      )
+      | some_cases-else-has_script w ↦ (
+        let passed = case_passed piece c.args.numbered walked _ _ left (lines c.loop-i.rest.now) (sym c.has_script.ensures ∙ w.if-has_script.false) in
+        ap (λ s. with_cases (map plain_script_case s) (cases_by piece c.args.numbered walked left (lines c.if-has_script.rest.now))) w.scripts-is
+        ∙ ap (λ (r : Bor (List ℕ)). with_cases (map plain_script_case c.loop-i.scripts) (cases_by piece c.args.numbered walked left (lines r.now))) w.rest-is
+        ∙ ap (with_cases (map plain_script_case c.loop-i.scripts)) (sym passed) ∙ before
+      )
+    ]
