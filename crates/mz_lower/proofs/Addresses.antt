@@ -17,10 +17,12 @@ use Rattle.mz_named.specs.Machine.{Rest, Level, rest_of, body_in, body_for}
 use Rattle.mz_lower.specs.Layout.{instr, size_body, size_commands, size_command, size_op, size_cases, size_case, lay_body, lay_commands, lay_command, lay_op, lay_branch, lay_cases, lay_case, branch_end, cons_in, targets_in, size_fun, lay_fun, lay_funs, start_of, starts_of, code_of}
 use Rattle.mz_lower.specs.Addresses.{HasAt, StandsAt, Before_return, Before_join, BindsBelow, CasesBelow, CommandBelow, CommandsBelow, RestBelow, size_rest, lay_rest}
 
+-- of two lists that stand there one behind the other the first stands there
 pub has_front : (code : List Instr) (address : ℕ) (a b : List Instr) → HasAt code address (a ++ b) → HasAt code address a
 has_front code address [] b h = tt
 has_front code address (i ∷ a) b h = (h.0, has_front code (address + 1) a b h.1)
 
+-- and the second stands behind it
 pub has_back : (code : List Instr) (address n : ℕ) (a b : List Instr) → length a ≡ n → HasAt code address (a ++ b) → HasAt code (address + n) b
 has_back code address n [] b e h = let q : address ≡ address + n = omega (arith, e) in subst (λ m. HasAt code m b) q h
 has_back code address n (i ∷ a) b e h =
@@ -28,6 +30,7 @@ has_back code address n (i ∷ a) b e h =
     subst (λ m. HasAt code m b) q (has_back code (address + 1) (length a) a b refl h.1)
 
 mutual
+  -- what is laid is as long as its size says
   pub long_body : (address : ℕ) (b : Body) → length (lay_body address b) ≡ size_body b
   long_body address (The_body commands value brace) = long_commands address commands
 
@@ -59,9 +62,11 @@ mutual
   pub long_case : (address to : ℕ) (place : Place) (end : ℕ) (c : Case) → length (lay_case address to place end c) ≡ size_case c
   long_case address to place end (The_case con body) = omega (arith, length-append (lay_body address body) (branch_end place to (result_of body) end), long_body address body)
 
+-- a branch has two instructions more than its body
 pub long_branch : (address to : ℕ) (place : Place) (end : ℕ) (b : Body) → length (lay_branch address to place end b) ≡ size_body b + 2
 long_branch address to place end b = omega (arith, length-append (lay_body address b) (branch_end place to (result_of b) end), long_body address b)
 
+-- a function has one more than its body
 pub long_fun : (address : ℕ) (f : Fun) → length (lay_fun address f) ≡ size_fun f
 long_fun address f = omega (arith, length-append (lay_body address f.body) (instr (brace_of f.body) (Return (result_of f.body)) ∷ []), long_body address f.body)
 
@@ -71,9 +76,11 @@ some_inj e = cc
 pub none_some : {A : Type 0} {o : Option A} {a : A} → o ≡ None → o ≡ Some a → ⊥
 none_some e f = absurd (cc)
 
+-- a test that holds
 pub if_true : {A : Type 0} (b : Bool) → b ≡ true → (x y : A) → (if b then x else y) ≡ x
 if_true b e x y = ap (λ c. if c then x else y) e
 
+-- a test that fails
 pub if_false : {A : Type 0} (b : Bool) → b ≡ false → (x y : A) → (if b then x else y) ≡ y
 if_false b e x y = ap (λ c. if c then x else y) e
 
@@ -85,9 +92,11 @@ remaining commands value = record { commands = commands; value = value }
 pub rest_laid : (address : ℕ) (body : Body) → lay_body address body ≡ lay_rest address (rest_of body)
 rest_laid address (The_body commands value brace) = ap (lay_commands address) (sym (commands_of_list commands))
 
+-- all of a body has its size
 pub rest_size : (body : Body) → size_body body ≡ size_rest (rest_of body)
 rest_size (The_body commands value brace) = ap size_commands (sym (commands_of_list commands))
 
+-- and its names fit where those of the body do
 pub rest_binds : (n : ℕ) (body : Body) → BindsBelow n body → RestBelow n (rest_of body)
 rest_binds n (The_body commands value brace) b = subst (λ (x : Commands). CommandsBelow n x) (sym (commands_of_list commands)) b
 
@@ -115,8 +124,8 @@ pub branch_stands : (code : List Instr) (n address to : ℕ) (place : Place) (en
 branch_stands code n address to place end body after outer h b l s =
     let back = has_back code address (size_body body) (lay_body address body) (branch_end place to (result_of body) end) (long_body address body) h in
     Before_join address end to place (rest_of body) after outer (subst (λ (x : List Instr). HasAt code address x) (rest_laid address body) (has_front code address (lay_body address body) _ h)) (rest_binds n body b) l
-        (subst (λ m. slice_get code (address + m) ≡ Some (instr place (Copy to (result_of body)))) (rest_size body) back.0)
-        (subst (λ m. slice_get code (address + m + 1) ≡ Some (instr place (Jump end))) (rest_size body) back.1.0) s
+    (subst (λ m. slice_get code (address + m) ≡ Some (instr place (Copy to (result_of body)))) (rest_size body) back.0)
+    (subst (λ m. slice_get code (address + m + 1) ≡ Some (instr place (Jump end))) (rest_size body) back.1.0) s
 
 -- an If: its instruction, and where its branches stand
 pub if_place : (code : List Instr) (n address to test : ℕ) (one two : Body) (giving : List (Atom ℕ)) (place : Place) (rest : List Command) (value : ℕ) (outer : List Level)
@@ -140,6 +149,7 @@ pub record CasePlace (code : List Instr) (n address : ℕ) (con to : ℕ) (cases
   pub found : case_at (cons_in cases) (targets_in address cases) (con + 1) ≡ Some target
   pub stands : StandsAt code n target (rest_of body) (record { to = to; after = after } ∷ outer)
 
+-- by going along the cases: those before it fill the code up to where it stands
 pub case_place : (code : List Instr) (n address con to : ℕ) (place : Place) (end : ℕ) (cases : Cases) (body : Body) (after : Rest) (outer : List Level)
     → HasAt code address (lay_cases address to place end cases) → CasesBelow n cases → to < n → StandsAt code n end after outer
     → body_for con (case_list cases) ≡ Some body → CasePlace code n address con to cases body after outer
@@ -182,6 +192,7 @@ pub record BranchEnd (code : List Instr) (n address value to : ℕ) (after : Res
   pub bound : to < n
   pub stands : StandsAt code n end after outer
 
+-- where nothing is left of a branch its two last instructions follow
 pub branch_end_place : (code : List Instr) (n address value : ℕ) (level : Level) (outer : List Level)
     → StandsAt code n address (remaining [] value) (level ∷ outer) → BranchEnd code n address value level.to level.after outer
 branch_end_place code n address value level outer (Before_join _ end to place _ after _ h b l p j s) = record {
@@ -231,6 +242,7 @@ fun_in code sigs address (one ∷ rest) (suc f) fun h e =
 pub fun_place : (p : Program) (f : ℕ) (fun : Fun) → slice_get p.funs f ≡ Some fun → FunPlace (code_of p).instrs (code_of p).entries p.sigs f fun
 fun_place p f fun e = fun_in (lay_funs 0 p.funs) p.sigs 0 p.funs f fun (has_all [] (lay_funs 0 p.funs)) e
 
+-- at its first instruction all of a function is left
 pub body_stands : (code : List Instr) (starts : List Start) (sigs : List Sig) (f : ℕ) (fun : Fun) (q : FunPlace code starts sigs f fun) → BindsBelow (length fun.spelling) fun.body → StandsAt code (length fun.spelling) q.first (rest_of fun.body) []
 body_stands code starts sigs f fun q b =
     Before_return q.first (rest_of fun.body) (brace_of fun.body) (subst (λ (x : List Instr). HasAt code q.first x) (rest_laid q.first fun.body) (has_front code q.first (lay_body q.first fun.body) (last_of fun) q.stands)) (rest_binds (length fun.spelling) fun.body b)

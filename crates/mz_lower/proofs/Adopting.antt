@@ -46,6 +46,7 @@ pub record Taker (c : Code) (s : Raw) (w : Config) (j : ℕ) (a : Act) : Type 0 
 
 -- a thread past the load of a Take, or its instruction is another and nothing is known
 module _ (p : Program) (c : Code) (o : Options) (s : Raw) (w : Config) (S : Simulation p c o s w) (j : ℕ) (i : Instr) (found : slice_get c.instrs (s.thread j).at ≡ Some i) where
+  -- no thread but k has seen this adopter word and not yet stored
   abbrev pub NothingTaken : Act → Type 0
   NothingTaken a = (g : ℕ → ℕ) → Taken g S.base_of S.maker (s.thread j) a → ⊥
 
@@ -81,6 +82,7 @@ module _ (p : Program) (c : Code) (o : Options) (s : Raw) (w : Config) (S : Simu
       let r = return_place c.instrs (length (s.thread j).regs) (s.thread j).at value stands in inr (other r.0 (Return value) r.1 (λ g z. z))
   by_frame n values commands value outer below is here regs (Comes_by_jump end place e stands) under = inr (other place (Jump end) e (λ g z. z))
 
+  -- whoever is past the load of a Take stands at that Take
   pub taker_or : (s.thread j).stage ≡ Taking → Taker c s w j i.act ⊎ NothingTaken i.act
   taker_or st =
       let n = S.started j (subst (λ (x : Stage). Rattle.mz_lower.proofs.Simulation.Started x) (sym st) tt) in
@@ -93,6 +95,7 @@ module _ (p : Program) (c : Code) (o : Options) (s : Raw) (w : Config) (S : Simu
 
 -- the adopter word of b is stored by thread k: no other thread has seen its adopter there
 module _ (p : Program) (c : Code) (o : Options) (s s' : Raw) (w : Config) (S : Simulation p c o s w) (safe : IsFine p w) (k b : ℕ) (words : (q : ℕ) → q ≢ b + 1 → s'.word q ≡ s.word q) where
+  -- and what it has seen stays
   pub takes_stay : ((j : ℕ) (a : Act) (t : Taker c s w j a) → j ≢ k → reg (s.thread j) t.x ≡ b → s.word (b + 1) ≡ reg (s.thread j) t.y → ⊥)
       → (j : ℕ) (i : Instr) → j ≢ k → (s.thread j).stage ≡ Taking → slice_get c.instrs (s.thread j).at ≡ Some i → Taken s.word S.base_of S.maker (s.thread j) i.act → Taken s'.word S.base_of S.maker (s.thread j) i.act
   takes_stay never j i far st found h = elim (taker_or p c o s w S j i found st) [
@@ -106,6 +109,7 @@ module _ (p : Program) (c : Code) (o : Options) (s s' : Raw) (w : Config) (S : S
         | inr z ↦ (words (reg (s.thread j) t.x + 1) (λ e. z (omega (arith, e))) ∙ q.0, q.1, q.2)
       ]
 
+  -- both blocks of a Give or a Take are complete
   pub both_at : (j : ℕ) (a : Act) (t : Taker c s w j a) → TwoBlocks w.heap.at (t.values t.x) (t.values t.y)
   both_at j a t = both_of p t.values t.x t.y w.heap.at (fine_can p w t.n (next_of c s w j t.n t.values t.to (Take_op t.x t.y) t.place t.rest t.value t.outer t.below t.at) (safe.goes_on t.n _ t.below t.at.here))
 
@@ -119,6 +123,7 @@ adopter_words con x y fields (suc zero) n = absurd (n refl)
 adopter_words con x y fields (suc (suc m)) n = refl
 
 module _ (p : Program) (c : Code) (o : Options) (s s' : Raw) (w : Config) (S : Simulation p c o s w) (safe : IsFine p w) (k n : ℕ) (values : Environment) (to : ℕ) (place : Place) (rest : List Command) (value : ℕ) (outer : List Level) (below : List Suspended) where
+  -- the store of a Give gives its named step
   pub give_next : (x y m : ℕ) → AtCommand c s w k n values to (Give_op x y) place rest value outer below → ThreadIsFine p w n
       → EventAt c o s k (Saw m) s' Ready (Some (instr place (Give to x y))) → StepOn p c o s' w n
   give_next x y m at fine e = by_can (fine_can p w n (next_of c s w k n values to (Give_op x y) place rest value outer below at) fine)

@@ -27,9 +27,11 @@ placed_by : (o : Options) (place : ℕ) (x : Ask) (answer : Answer) (b : Bool) �
 placed_by o place x answer true e n m = refl
 placed_by o place x answer false e n m = absurd (n m)
 
+-- the same of a place among the words
 pub placed_is : (o : Options) (place : ℕ) (x : Ask) (answer : Answer) → (May Nothing answer → ⊥) → May (placed o place x) answer → placed o place x ≡ x
 placed_is o place x answer n m = placed_by o place x answer (ltb place o.heap) refl n m
 
+-- the same of a step that is counted and has a place
 pub both_is : (o : Options) (t : Standing) (place : ℕ) (x : Ask) (answer : Answer) → (May Local answer → ⊥) → (May Nothing answer → ⊥) → May (counted o t (placed o place x)) answer → (counted o t (placed o place x) ≡ x) × (t.units < o.steps)
 both_is o t place x answer n m h =
     let q = counted_is o t (placed o place x) answer n h in
@@ -42,5 +44,6 @@ pub record EventAs (c : Code) (o : Options) (s : Raw) (k : ℕ) (answer : Answer
   pub words : (q : ℕ) → s'.word q ≡ word_then (moved x answer) s.word q
   pub prints : s'.prints ≡ s.prints ++ printed x answer
 
+-- an event at a known instruction, by what it asks
 pub event_as : (c : Code) (o : Options) (s : Raw) (k : ℕ) (answer : Answer) (s' : Raw) (stage : Stage) (a : Option Instr) (x : Ask) → EventAt c o s k answer s' stage a → ask_at c o k (s.thread k) stage a ≡ x → EventAs c o s k answer s' stage a x
 event_as c o s k answer s' stage a x e q = subst (λ (y : Ask). EventAs c o s k answer s' stage a y) q (record { may = e.may; agrees = e.agrees; words = e.words; prints = e.prints })

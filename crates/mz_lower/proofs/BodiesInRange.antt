@@ -9,6 +9,7 @@ use Rattle.mz_lower.proofs.Addresses.{long_body, long_command, long_case, long_b
 
 -- each name that a body uses is below n, and no block is too long
 abbrev mutual
+  -- each name that a body uses is below n, and so is its value
   pub BodyFits : ℕ → Body → Type 0
   BodyFits n (The_body commands value place) = CommandsFit n commands × (value < n)
 
@@ -47,12 +48,14 @@ abbrev mutual
   pub CaseFits : ℕ → Case → Type 0
   CaseFits n (The_case con body) = BodyFits n body
 
+-- two lists in range, one behind the other
 pub range_append : (n address last m : ℕ) (a b : List Instr) → length a ≡ m → AllInRange n address last a → AllInRange n (address + m) last b → AllInRange n address last (a ++ b)
 range_append n address last m [] b e h k = let q : address + m ≡ address = omega (arith, e) in subst (λ x. AllInRange n x last b) q k
 range_append n address last m (i ∷ a) b e h k =
     let q : address + m ≡ address + 1 + length a = omega (arith, e) in
     (h.0, range_append n (address + 1) last (length a) a b refl h.1 (subst (λ x. AllInRange n x last b) q k))
 
+-- the value of a body that fits
 pub value_fits : (n : ℕ) (b : Body) → BodyFits n b → result_of b < n
 value_fits n (The_body commands value place) f = f.1
 
@@ -71,6 +74,7 @@ branch_range n address to last place end b t v h e l =
     ((t, v), ((omega (arith, e), l), tt))
 
 mutual
+  -- what is laid for a body that fits is in range, where the function's last instruction is behind it
   pub body_range : (n address last : ℕ) (b : Body) → BodyFits n b → address + size_body b ≤ last → AllInRange n address last (lay_body address b)
   body_range n address last (The_body commands value place) f l = commands_range n address last commands f.0 l
 
@@ -97,8 +101,8 @@ mutual
       let end = address + size_op (If_op x one two giving) in (
         (f.0, omega arith, omega (arith, l)),
         range_append n (address + 1) last (size_body one + 2) (lay_branch (address + 1) to place end one) (lay_branch (address + 1 + (size_body one + 2)) to place end two) (long_branch (address + 1) to place end one)
-        (branch_range n (address + 1) to last place end one t (value_fits n one f.1) (body_range n (address + 1) last one f.1 (omega (arith, l))) (omega arith) (omega (arith, l)))
-        (branch_range n (address + 1 + (size_body one + 2)) to last place end two t (value_fits n two f.2) (body_range n (address + 1 + (size_body one + 2)) last two f.2 (omega (arith, l))) (omega arith) (omega (arith, l))),
+            (branch_range n (address + 1) to last place end one t (value_fits n one f.1) (body_range n (address + 1) last one f.1 (omega (arith, l))) (omega arith) (omega (arith, l)))
+            (branch_range n (address + 1 + (size_body one + 2)) to last place end two t (value_fits n two f.2) (body_range n (address + 1 + (size_body one + 2)) last two f.2 (omega (arith, l))) (omega arith) (omega (arith, l))),
       )
   op_range n address to last place (Match_op x d cases giving) t f l = (
     (f.0, targets_many (address + 1) cases, targets_ahead address (address + 1) last cases (omega arith) (omega (arith, l))),

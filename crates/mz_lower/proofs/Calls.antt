@@ -44,6 +44,7 @@ pub record Begins (c : Code) (f count : ℕ) (fun : Fun) : Type 0 where
   pub stands : StandsAt c.instrs start.registers start.first (rest_of fun.body) []
   pub room : count ≤ start.registers
 
+-- a function of the program begins in the code with as many parameters
 pub begins : (p : Program) (c : Code) → Coded p c → (callee : Value) (count : ℕ) (q : IsFunction p callee count) → Begins c q.number count q.fun
 begins p c coded callee count q =
     let there = coded.place q.number q.fun q.declared in
@@ -59,6 +60,7 @@ zeros_long : (n : ℕ) → length (zeros n) ≡ n
 zeros_long zero = refl
 zeros_long (suc n) = ap suc (zeros_long n)
 
+-- a new frame has the registers of its function
 pub frame_long : (args : List ℕ) (s : Start) → length args ≤ s.registers → length (frame_of args s) ≡ s.registers
 frame_long args s l = length-append args (zeros (s.registers - length args)) ∙ omega (arith, l, zeros_long (s.registers - length args))
 
@@ -67,6 +69,7 @@ zeros_read zero m = refl
 zeros_read (suc n) zero = refl
 zeros_read (suc n) (suc m) = zeros_read n m
 
+-- its first registers are the arguments, and the others 0
 pub params_read : (vs : List Value) (n m : ℕ) → slice_index_or (map raw_value vs ++ zeros n) m 0 ≡ raw_value (value_at vs m)
 params_read [] n m = zeros_read n m
 params_read (u ∷ vs) n zero = refl
@@ -90,6 +93,7 @@ by_two F false true x y v z e f g h = g refl refl e
 by_two F false false x y v z e f g h = h refl refl e
 
 module _ (p : Program) (c : Code) (coded : Coded p c) (o : Options) (s s' : Raw) (w : Config) (S : Simulation p c o s w) (k n : ℕ) (values : Environment) (to : ℕ) (place : Place) (rest : List Command) (value : ℕ) (outer : List Level) (below : List Suspended) where
+  -- a call is over, or full, or makes its frame, which is its named step
   pub call_next : (callee : ℕ) (args : List ℕ) → AtCommand c s w k n values to (Call_op callee args) place rest value outer below → ThreadIsFine p w n
       → EventAt c o s k Quiet s' Ready (Some (instr place (Call to callee args))) → KeptAs p c o s s' w k (quiet_gives (ask_act c o (s.thread k) (Call to callee args)) (Call to callee args))
   call_next callee args at fine e = by_can (fine_can p w n (next_of c s w k n values to (Call_op callee args) place rest value outer below at) fine)
@@ -122,9 +126,9 @@ module _ (p : Program) (c : Code) (coded : Coded p c) (o : Options) (s s' : Raw)
                 n,
                 at.is,
                 (
-                gone p c o s s' w S k n e.number (λ q h. e.words q) e.blocks (e.born ∙ nil_right s.born) prints_same e.others at.is u0 u at.here t' 1 (q ∙ made) refl (within some) stands (λ w2 h. tt),
-                Step_calls _ below _ rest callee args (next_of c s w k n values to (Call_op callee args) place rest value outer below at) refl function (moves_on w n u0 u at.here),
-                goes_with p c o s s' w S k n e.number (λ q h. e.words q) e.blocks (e.born ∙ nil_right s.born) prints_same e.others at.is u0 u at.here t' 1 (q ∙ made) refl (within some) stands (λ w2 h. tt),
+                  gone p c o s s' w S k n e.number (λ q h. e.words q) e.blocks (e.born ∙ nil_right s.born) prints_same e.others at.is u0 u at.here t' 1 (q ∙ made) refl (within some) stands (λ w2 h. tt),
+                  Step_calls _ below _ rest callee args (next_of c s w k n values to (Call_op callee args) place rest value outer below at) refl function (moves_on w n u0 u at.here),
+                  goes_with p c o s s' w S k n e.number (λ q h. e.words q) e.blocks (e.born ∙ nil_right s.born) prints_same e.others at.is u0 u at.here t' 1 (q ∙ made) refl (within some) stands (λ w2 h. tt),
                 ),
               ))
             where
@@ -191,6 +195,7 @@ args_by false (v ∷ u ∷ vs) arg e h = absurd (omega (arith, e))
 
 -- a thread makes its first frame
 module _ (p : Program) (c : Code) (coded : Coded p c) (o : Options) (s s' : Raw) (w : Config) (S : Simulation p c o s w) (k n : ℕ) (u : Thread) (is : slice_get s.born n ≡ Some k) (here : slice_get w.threads n ≡ Some u) where
+  -- the first frame of a thread stands for the start of its function
   pub enter_next : (f arg : ℕ) (a : Option Instr) (q : StandsBeforeStart p s.word k u) → f ≡ raw_value q.callee → ((v : Value) → slice_get q.args 0 ≡ Some v → arg ≡ raw_value v)
       → EventAt c o s k Quiet s' (Entering f arg) a → Simulation p c o s' w
   enter_next f arg a q f_is arg_is e = rests_with p c o s s' w S k n e.number (λ x h. e.words x) e.blocks (e.born ∙ nil_right s.born)
@@ -231,6 +236,7 @@ module _ (p : Program) (c : Code) (coded : Coded p c) (o : Options) (s s' : Raw)
   wait_still : (q : StandsBeforeStart p s.word k u) → ((x : ℕ) → s'.word x ≡ s.word x) → StandsBeforeStart p s'.word k u
   wait_still q h = record { callee = q.callee; args = q.args; start = q.start; fun_word = h (6 + 3 * k) ∙ q.fun_word; arg_word = λ v e. h (7 + 3 * k) ∙ q.arg_word v e }
 
+  -- the word FUN is the function that the named thread starts with
   pub fun_next : (m : ℕ) (a : Option Instr) → StandsBeforeStart p s.word k u → EventAt c o s k (Saw m) s' LoadFun a → Simulation p c o s' w
   unfolding wait_still
   fun_next m a q e = rests_with p c o s s' w S k n e.number (λ x h. same x) e.blocks (e.born ∙ nil_right s.born) (e.prints ∙ nil_right s.prints) e.others is u u here
@@ -239,6 +245,7 @@ module _ (p : Program) (c : Code) (coded : Coded p c) (o : Options) (s s' : Raw)
       same : (x : ℕ) → s'.word x ≡ s.word x
       same x = e.words x ∙ same_either (6 + 3 * k == x) (s.word x)
 
+  -- and the word ARG its argument
   pub arg_next : (f m : ℕ) (a : Option Instr) (q : StandsBeforeStart p s.word k u) → f ≡ raw_value q.callee → EventAt c o s k (Saw m) s' (LoadArg f) a → Simulation p c o s' w
   unfolding wait_still
   arg_next f m a q f_is e = rests_with p c o s s' w S k n e.number (λ x h. same x) e.blocks (e.born ∙ nil_right s.born) (e.prints ∙ nil_right s.prints) e.others is u u here

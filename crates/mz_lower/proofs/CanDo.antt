@@ -49,6 +49,7 @@ moved_can p {g = g} {c = c} at e h = subst (λ (x : Frame). CanDo p x.env (op_of
 waits_can : (p : Program) (values : Environment) (op : Op) (at : Cells) (lock name : ℕ) → op ≡ Acquire_op lock → values lock ≡ Block_value name → at name ≡ Some (Lock_cell true) → CanDo p values op at
 waits_can p values op at lock name e is held = subst (λ (x : Op). CanDo p values x at) (sym e) (Can_wait (name, is, held))
 
+-- by the steps that a thread has: each is one of its next command, or of an end
 pub fine_can : (p : Program) (w : Config) (k : ℕ) {f : Frame} {below : List Suspended} {c : Command} {rest : List Command} → IsAt w k f below c rest → ThreadIsFine p w k → CanDo p f.env (op_of c) w.heap.at
 fine_can p w k q (inr z) = moved_can p w.heap.at (same_next w k q z.stands) (waits_can p z.frame.env (op_of z.command) w.heap.at z.lock z.name z.acquires z.is z.held)
 fine_can p w k {f = f} {c = c} q (inl z) = by_step z.0 z.1

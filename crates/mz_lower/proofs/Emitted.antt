@@ -16,6 +16,7 @@ next_of f xs i x h e =
     let n : suc i ≡ i + 1 = omega arith in
     ap (map f) (drop-cons xs i x h ∙ ap (λ y. y ∷ drop (suc i) xs) (sym e) ∙ ap (λ k. x ∷ drop k xs) n)
 
+-- what follows where nothing was refused
 pub on_ok : {A B : Type 0} (r : Result A B) (P Q : Type 0) → (P → Q) → OnOk r P → OnOk r Q
 on_ok (Ok a) P Q f h = f h
 on_ok (Err b) P Q f h = tt
@@ -33,9 +34,11 @@ one_more old new piece n rest long e =
     let q : length new ≡ length old + n = ap length e ∙ length-append old piece ∙ ap (λ m. length old + m) long in
     ap (λ m. new ++ rest m) q ∙ ap (λ (l : List Instr). l ++ rest (length old + n)) e ∙ append_assoc old piece (rest (length old + n))
 
+-- a command behind those that are laid
 pub command_laid : (old new : List Instr) (c : Command) (rest : Commands) → new ≡ old ++ lay_command (length old) c → new ++ lay_commands (length new) rest ≡ old ++ lay_commands (length old) (More_commands c rest)
 command_laid old new c rest e = one_more old new (lay_command (length old) c) (size_command c) (λ m. lay_commands m rest) (long_command (length old) c) e
 
+-- a case behind those that are laid
 pub case_laid : (old new : List Instr) (to : ℕ) (place : Place) (end : ℕ) (c : Case) (rest : Cases) → new ≡ old ++ lay_case (length old) to place end c
     → new ++ lay_cases (length new) to place end rest ≡ old ++ lay_cases (length old) to place end (More_cases c rest)
 case_laid old new to place end c rest e = one_more old new (lay_case (length old) to place end c) (size_case c) (λ m. lay_cases m to place end rest) (long_case (length old) to place end c) e

@@ -182,5 +182,6 @@ module _ (p : Program) (c : Code) (coded : Coded p c) (o : Options) (s : Raw) (w
   unfolding ask
   ask_some k e = asks_some k (s.thread k).stage refl e
 
+  -- no thread's next act is a fault: by what the named command finds, and no place is outside the words
   pub no_fault : NoFault c o s
   no_fault = record { acts = λ k r. at_running k (s.thread k).stage refl r; asks = ask_some; inside = inside_heap }

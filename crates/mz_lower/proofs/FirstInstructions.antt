@@ -31,6 +31,7 @@ act_of address to (Release_op x) = Release to x
 act_of address to (Spawn_op callee arg) = Spawn to callee arg
 act_of address to (Print_op x) = Print to x
 
+-- it stands where the command does
 pub head_act : (code : List Instr) (address to : ℕ) (place : Place) (op : Op) → HasAt code address (lay_op address to place op) → slice_get code address ≡ Some (instr place (act_of address to op))
 head_act code address to place (If_op test one two giving) h = h.0
 head_act code address to place (Match_op x d cases giving) h = h.0

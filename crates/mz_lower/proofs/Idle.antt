@@ -46,6 +46,7 @@ module _ (p : Program) (c : Code) (o : Options) (s s' : Raw) (w : Config) (S : S
       → s'.thread k ≡ record (s.thread k) { stage = stage } → k < 64 → ((q : ℕ) → s'.word q ≡ s.word q) → ((b : ℕ) → s'.blocks b ≡ s.blocks b) → s'.born ≡ s.born → s'.prints ≡ s.prints → ((j : ℕ) → j ≢ k → s'.thread j ≡ s.thread j) → Simulation p c o s' w
   goes stage stands inside mine number words blocks born prints others = rests_with p c o s s' w S k n number (λ q h. words q) blocks born prints others is u u here (record (s.thread k) { stage = stage }) 0 mine (omega arith) (S.units k) stands (λ w2 h. inside w2) refl
 
+  -- a look of a thread whose start was stored
   pub idle_born : (answer : Answer) (stage : Stage) → (s.thread k).stage ≡ stage → StageStands c.instrs p s.word k (s.thread k) stage u → Event c o s k answer s' → (stage ≡ Idle) ⊎ ((stage ≡ IdleStop) ⊎ (stage ≡ IdleLive)) → Simulation p c o s' w
   idle_born answer stage st q v h = by_stage answer stage st q v h
     where
@@ -141,6 +142,7 @@ module _ (p : Program) (c : Code) (o : Options) (s s' : Raw) (w : Config) (S : S
       same_total : total (λ j. (s'.thread j).units) 64 ≡ total (λ j. (s.thread j).units) 64 + 0
       same_total = units_rise s.thread s'.thread k 0 number (ap (λ (t : Standing). t.units) mine ∙ omega arith) others
 
+  -- a look of one that nobody has started
   pub idle_unborn : (answer : Answer) (stage : Stage) → (s.thread k).stage ≡ stage → Dormant stage → Event c o s k answer s' → Simulation p c o s' w
   idle_unborn answer stage st d v = by_stage answer stage st d v
     where

@@ -24,10 +24,12 @@ use Rattle.mz_lower.proofs.Binding.{nil_right, AtCommand, next_of, binds_on}
 use Rattle.mz_lower.proofs.LocalActs.{StepOn, branch_goes}
 use Rattle.mz_lower.proofs.Asked.{both_is, EventAs, event_as}
 
+-- what is one of two words either way
 pub same_either : {A : Type 0} (b : Bool) (x : A) → (if b then x else x) ≡ x
 same_either true x = refl
 same_either false x = refl
 
+-- an element of a list that is mapped
 pub map_at : (f : Value → ℕ) (vs : List Value) (i : ℕ) (v : Value) → slice_get vs i ≡ Some v → slice_index_or (map f vs) i 0 ≡ f v
 map_at f [] i v e = absurd (no_none e)
   where
@@ -37,6 +39,7 @@ map_at f (u ∷ vs) zero v e = let same : u ≡ v = cc in ap f same
 map_at f (u ∷ vs) (suc i) v e = map_at f vs i v e
 
 module _ (p : Program) (c : Code) (o : Options) (s s' : Raw) (w : Config) (S : Simulation p c o s w) (k n : ℕ) (values : Environment) (to : ℕ) (place : Place) (rest : List Command) (value : ℕ) (outer : List Level) (below : List Suspended) where
+  -- a Read gives the field that its named step reads
   pub read_next : (x con i m : ℕ) → AtCommand c s w k n values to (Read_op x con i) place rest value outer below → ThreadIsFine p w n
       → EventAt c o s k (Saw m) s' Ready (Some (instr place (Read to x con i))) → StepOn p c o s' w n
   read_next x con i m at fine e = by_can (fine_can p w n (next_of c s w k n values to (Read_op x con i) place rest value outer below at) fine)
@@ -66,6 +69,7 @@ module _ (p : Program) (c : Code) (o : Options) (s s' : Raw) (w : Config) (S : S
       by_can (Can_call callee2 args2 q2 g2) = absurd (cc)
       by_can (Can_spawn callee2 arg2 q2 g2) = absurd (cc)
 
+  -- a Switch leads to the branch that its named step chooses
   pub switch_next : (x d m : ℕ) (cases : Cases) (giving : List (Atom ℕ)) → AtCommand c s w k n values to (Match_op x d cases giving) place rest value outer below → ThreadIsFine p w n
       → EventAt c o s k (Saw m) s' Ready (Some (instr place (Switch x (cons_in cases) (targets_in ((s.thread k).at + 1) cases)))) → StepOn p c o s' w n
   switch_next x d m cases giving at fine e = by_can (fine_can p w n (next_of c s w k n values to (Match_op x d cases giving) place rest value outer below at) fine)

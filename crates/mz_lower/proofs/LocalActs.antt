@@ -45,6 +45,7 @@ abbrev pub KeptAs : Program → Code → Options → Raw → Raw → Config → 
 KeptAs p c o s s' w k true = (n : ℕ) × (slice_get s.born n ≡ Some k) × StepOn p c o s' w n
 KeptAs p c o s s' w k false = Simulation p c o s' w
 
+-- the same, where it is known whether a step is given
 pub kept_as : (p : Program) (c : Code) (o : Options) (s s' : Raw) (w : Config) (k : ℕ) (a b : Bool) → a ≡ b → KeptAs p c o s s' w k b → KeptAs p c o s s' w k a
 kept_as p c o s s' w k a b e h = subst (λ (x : Bool). KeptAs p c o s s' w k x) (sym e) h
 
@@ -62,6 +63,7 @@ module _ (p : Program) (c : Code) (o : Options) (s s' : Raw) (w : Config) (S : S
       → EventAt c o s k Quiet s' Ready (Some (instr place (Const to m))) → m ≡ raw_value v → Acts w.heap.at values op v w.heap.at [] → StepOn p c o s' w n
   const_next op m v one at e is d = local_next op _ m v one at e e.mine e.words (e.prints ∙ nil_right s.prints) is d
 
+  -- a Copy gives the value of the other name
   pub copy_next : (x : ℕ) → AtCommand c s w k n values to (Copy_op x) place rest value outer below
       → EventAt c o s k Quiet s' Ready (Some (instr place (Copy to x))) → StepOn p c o s' w n
   copy_next x at e = local_next (Copy_op x) (Some (instr place (Copy to x))) (reg (s.thread k) x) (values x) refl at e e.mine e.words (e.prints ∙ nil_right s.prints) (at.regs.agree x) (refl, λ b. refl, refl)
@@ -106,6 +108,7 @@ module _ (p : Program) (c : Code) (o : Options) (s s' : Raw) (w : Config) (S : S
         (λ w2 h. tt),
   )
 
+  -- a Branch leads to the branch that its named step chooses
   pub if_next : (test : ℕ) (one two : Body) (giving : List (Atom ℕ)) → AtCommand c s w k n values to (If_op test one two giving) place rest value outer below → ThreadIsFine p w n
       → EventAt c o s k Quiet s' Ready (Some (instr place (Branch test ((s.thread k).at + 1 + (size_body one + 2))))) → StepOn p c o s' w n
   if_next test one two giving at fine e = by_can (fine_can p w n (next_of c s w k n values to (If_op test one two giving) place rest value outer below at) fine)

@@ -308,12 +308,15 @@ module _ (p : Program) (c : Code) (o : Options) (s s' : Raw) (w : Config) (S : S
 
   -- the last one: the block is complete, and has its name
   module _ (values : Environment) (to : ℕ) (op : Op) (place : Place) (rest : List Command) (value : ℕ) (outer : List Level) (below : List Suspended) (at : AtCommand c s w k n values to op place rest value outer below) (one : size_op op ≡ 1) (cell : Cell) where
+    -- the named thread behind the command that makes it
     abbrev pub made_thread : Thread
     made_thread = bound_thread p c o s s' w S k n values to op place rest value outer below at one (Block_value b) 0 0 0 0
 
+    -- and the configuration with the new cell
     abbrev pub made_config : Config
     made_config = record { heap = put_heap b cell w.heap; threads = slice_set w.threads n made_thread; prints = w.prints }
 
+    -- the last store completes the block: its named step, in which the cell is new
     pub completes_on : s'.thread k ≡ record { at = (s.thread k).at + 1; regs = slice_set (s.thread k).regs to b; below = (s.thread k).below; units = (s.thread k).units + 1; lost = 0; stage = Border } → y + 1 ≡ made_words i.act
         → made_words i.act ≡ cell_words cell → ((j : ℕ) → made_word (s.thread k) i.act j ≡ cell_word cell j) → ((x : ℕ) → s'.blocks x ≡ (if b == x then Some (made_words i.act) else s.blocks x))
         → Acts w.heap.at values op (Block_value b) (put_heap b cell w.heap).at [] → StepOn p c o s' w n

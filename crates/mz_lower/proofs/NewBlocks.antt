@@ -43,10 +43,12 @@ block_words con read vs e zero = refl
 block_words con read vs e (suc zero) = refl
 block_words con read vs e (suc (suc j)) = ap (λ l. slice_index_or l j 0) e
 
+-- by cases on a test
 pub by_bool : {A : Type 0} (F : Type 0) (b : Bool) (x y : A) (z : A) → z ≡ (if b then x else y) → (z ≡ x → F) → (z ≡ y → F) → F
 by_bool F true x y z e f g = f e
 by_bool F false x y z e f g = g e
 
+-- by cases on a test, which is known in each
 pub by_bit : {A : Type 0} (F : Type 0) (b : Bool) (x y z : A) → z ≡ (if b then x else y) → (b ≡ true → z ≡ x → F) → (b ≡ false → z ≡ y → F) → F
 by_bit F true x y z e f g = f refl e
 by_bit F false x y z e f g = g refl e
@@ -72,12 +74,14 @@ module _ (p : Program) (c : Code) (o : Options) (s s' : Raw) (w : Config) (S : S
       (λ fits q. full_on p c o s s' w S k n _ (instr place a) m size e.number few most limited f.agrees f.words e.blocks (e.born ∙ nil_right s.born) (f.prints ∙ nil_right s.prints) e.others units at.is at.here
       place q (running_at c s w k n values to op place rest value outer below at))
 
+  -- the draw of a New
   pub new_draws : (con m : ℕ) (ys : List ℕ) → length ys ≤ 32 → AtCommand c s w k n values to (New_op con ys) place rest value outer below
       → EventAt c o s k (Saw m) s' Ready (Some (instr place (New to con ys))) → Simulation p c o s' w
   new_draws con m ys few at e =
       let asked = counted_is o (s.thread k) (Adds 0 (length ys + 2)) (Saw m) (λ h. h) e.may in
       draw_next (New_op con ys) (New to con ys) (length ys + 2) m (omega arith) (omega (arith, few)) refl at e asked.1 (event_as c o s k (Saw m) s' Ready (Some (instr place (New to con ys))) (Adds 0 (length ys + 2)) e asked.0) e.mine
 
+  -- the draw of a NewLock
   pub lock_draws : (m : ℕ) (guarded : List (Atom ℕ)) → AtCommand c s w k n values to (New_lock_op guarded) place rest value outer below
       → EventAt c o s k (Saw m) s' Ready (Some (instr place (NewLock to))) → Simulation p c o s' w
   lock_draws m guarded at e =
@@ -146,12 +150,16 @@ module _ (p : Program) (c : Code) (o : Options) (s s' : Raw) (w : Config) (S : S
       let asked = both_is o (s.thread k) (b + y) (Stores (b + y) 0) (Saw m) (λ h. h) (λ h. h) e.may in
       let f = event_as c o s k (Saw m) s' (Making b y) (Some (instr place (NewLock to))) (Stores (b + y) 0) e asked.0 in
       let q : y + 1 ≡ 1 = omega (arith, h.few) in
-      kept_as p c o s s' w k (y + 1 == 1) true (eq-eqb (y + 1) 1 q) (n, at.is, completes_on p c o s s' w S k n (instr place (NewLock to)) b y e.number h
-      (f.words (b + y) ∙ if_true (b + y == b + y) (eq-eqb (b + y) (b + y) refl) 0 (s.word (b + y)))
-      (λ x d. f.words x ∙ if_false (b + y == x) (ne_eqb (b + y) x (λ z. d (sym z))) 0 (s.word x))
-      (e.born ∙ nil_right s.born) (f.prints ∙ nil_right s.prints) e.others asked.1 at.is
-      values to (New_lock_op guarded) place rest value outer below at refl (Lock_cell false)
-      (e.mine ∙ if_true (y + 1 == 1) (eq-eqb (y + 1) 1 q) (gives to b (unit_at Ready (s.thread k))) (unit_at (Making b (y + 1)) (s.thread k)))
-      q refl (λ j. refl)
-      (λ x. e.blocks x ∙ ap (λ z. blocks_then z s.blocks x) (if_true (y + 1 == 1) (eq-eqb (y + 1) 1 q) (Some (b, 1)) None))
-      (record { name = b; free = h.not_yet; puts = put_puts b (Lock_cell false) w.heap; is = refl }, refl))
+      kept_as p c o s s' w k (y + 1 == 1) true (eq-eqb (y + 1) 1 q) (
+        n,
+        at.is,
+        completes_on p c o s s' w S k n (instr place (NewLock to)) b y e.number h
+            (f.words (b + y) ∙ if_true (b + y == b + y) (eq-eqb (b + y) (b + y) refl) 0 (s.word (b + y)))
+            (λ x d. f.words x ∙ if_false (b + y == x) (ne_eqb (b + y) x (λ z. d (sym z))) 0 (s.word x))
+            (e.born ∙ nil_right s.born) (f.prints ∙ nil_right s.prints) e.others asked.1 at.is
+            values to (New_lock_op guarded) place rest value outer below at refl (Lock_cell false)
+            (e.mine ∙ if_true (y + 1 == 1) (eq-eqb (y + 1) 1 q) (gives to b (unit_at Ready (s.thread k))) (unit_at (Making b (y + 1)) (s.thread k)))
+            q refl (λ j. refl)
+            (λ x. e.blocks x ∙ ap (λ z. blocks_then z s.blocks x) (if_true (y + 1 == 1) (eq-eqb (y + 1) 1 q) (Some (b, 1)) None))
+            (record { name = b; free = h.not_yet; puts = put_puts b (Lock_cell false) w.heap; is = refl }, refl),
+      )

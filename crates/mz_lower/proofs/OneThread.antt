@@ -17,6 +17,7 @@ use Rattle.mz_lower.proofs.Changes.{total}
 use Rattle.mz_lower.proofs.Simulation.{Simulation, HalfMade, Taken, Spawned, Inside, Started, Dormant}
 use Rattle.mz_lower.proofs.Still.{stage_words, units_rise}
 
+-- what such an event of thread k, the n-th named one, has to show
 pub record Next (p : Program) (c : Code) (o : Options) (s s' : Raw) (w w' : Config) (S : Simulation p c o s w) (k n : ℕ) : Type 0 where
   pub number : k < 64
   pub others : (j : ℕ) → j ≢ k → s'.thread j ≡ s.thread j
@@ -85,6 +86,7 @@ module _ (p : Program) (c : Code) (o : Options) (s s' : Raw) (w w' : Config) (S 
   up : total (λ j. (s'.thread j).units) 64 ≡ total (λ j. (s.thread j).units) 64 + q.more
   up = units_rise s.thread s'.thread k q.more q.number q.counts q.others
 
+  -- it keeps the simulation: each part by the part of the same name
   pub next_keeps : Simulation p c o s' w'
   next_keeps = record {
     stands = record { blocks = q.agrees; complete = q.complete; threads = named; many = q.many ∙ S.stands.many ∙ ap length (sym q.born); prints = q.prints };

@@ -75,6 +75,7 @@ module _ (p : Program) (c : Code) (o : Options) (s s' : Raw) (w w' : Config) (S 
     ];
   })
 
+  -- a word of one cell changes and no other part looks at it: so the simulation is kept
   pub change_keeps : Simulation p c o s' w'
   change_keeps = next_keeps p c o s s' w w' S k n (record {
     number = q.number;

@@ -70,6 +70,7 @@ module _ (p : Program) (c : Code) (o : Options) (s : Raw) (w : Config) (q : Open
     arg_word = λ v e. absurd (none_some refl e);
   })
 
+  -- at the opening words nothing is made, drawn or started but thread 0, which stands before `main`
   pub opening_keeps : Simulation p c o s w
   opening_keeps = record {
     stands = record {
@@ -107,6 +108,7 @@ module _ (p : Program) (c : Code) (o : Options) (s : Raw) (w : Config) (q : Open
     next_most = omega (arith, next_is);
   }
 
+-- one more step at the end of a list
 pub then_step : {p : Program} {a b c : Config} {k : ℕ} → NSteps p a b → NStep p b k c → NSteps p a c
 then_step No_steps s = More_steps _ s No_steps
 then_step (More_steps k one more) s = More_steps k one (then_step more s)
@@ -118,6 +120,7 @@ pub record Comes (p : Program) (c : Code) (o : Options) (opening : Raw) (first :
   pub run : NamedRun p c o opening first s named
   pub sim : Simulation p c o s named
 
+-- by induction over the list of events
 pub simulates : (p : Program) (c : Code) (coded : Coded p c) (o : Options) (limited : Limited o) → (first s : Raw) (w : Config) → Opens c first → (r : IsOpening p w) → IsFirst p c r.number r.main → NamedSafe p → Events c o first s → Comes p c o first w s
 simulates p c coded o limited first s w q r m safe No_events = record { named = w; steps = No_steps; run = At_opening; sim = opening_keeps p c o first w q r m }
 simulates p c coded o limited first s w q r m safe (More_events s1 _ k answer es e) =

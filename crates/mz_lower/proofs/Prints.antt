@@ -32,6 +32,7 @@ use Rattle.mz_lower.proofs.Asked.{counted_is, EventAs, event_as}
 use Rattle.mz_lower.proofs.NewBlocks.{by_bool}
 
 module _ (p : Program) (c : Code) (o : Options) (s s' : Raw) (w : Config) (S : Simulation p c o s w) (k n : ℕ) (values : Environment) (to : ℕ) (place : Place) (rest : List Command) (value : ℕ) (outer : List Level) (below : List Suspended) where
+  -- a Print adds the number that its named step adds
   pub print_next : (x m : ℕ) → AtCommand c s w k n values to (Print_op x) place rest value outer below → ThreadIsFine p w n
       → EventAt c o s k (Saw m) s' Ready (Some (instr place (Print to x))) → StepOn p c o s' w n
   print_next x m at fine e = by_can (fine_can p w n (next_of c s w k n values to (Print_op x) place rest value outer below at) fine)
@@ -111,6 +112,7 @@ over_stands code p f g k t e u h q = cut_over code p f g k t (Over e) u h q
 
 -- a failed try: the thread looks at STOP again, or ends Blocked
 module _ (p : Program) (c : Code) (o : Options) (s s' : Raw) (w : Config) (S : Simulation p c o s w) (k n : ℕ) (u : Thread) (is : slice_get s.born n ≡ Some k) (here : slice_get w.threads n ≡ Some u) where
+  -- a failed try leaves the named thread at its Acquire
   pub missed_next : (place : Place) → StandsRunning c.instrs (s.thread k) u → s'.thread k ≡ missed_one o place (s.thread k) → k < 64 → ((q : ℕ) → s'.word q ≡ s.word q) → ((b : ℕ) → s'.blocks b ≡ s.blocks b) → s'.born ≡ s.born → s'.prints ≡ s.prints
       → ((j : ℕ) → j ≢ k → s'.thread j ≡ s.thread j) → Simulation p c o s' w
   missed_next place r mine number words blocks born prints others = by_bool (Simulation p c o s' w) ((s.thread k).lost + 1 == o.tries) _ _ (s'.thread k) mine

@@ -320,6 +320,7 @@ module _ (p : Program) (c : Code) (coded : Coded p c) (o : Options) (s : Raw) (w
       let both : q.fields + 2 ≡ 1 = some_inj (sym q.complete ∙ ap s.blocks same ∙ z) in
       omega (arith, both)
 
+  -- two moves that meet at a tag or a field would be a race by name, or of two blocks that are being made
   pub no_race : NoRace c o s
   no_race = record {
     meet = λ j k l h d m n e f same store. meet_at j k d m n same store (reaches j l m e) (reaches k h n f);

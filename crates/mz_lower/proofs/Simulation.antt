@@ -42,6 +42,7 @@ pub record Drawn (word : ℕ → ℕ) (spawner : ℕ → Option ℕ) (k : ℕ) (
   pub stored_fun : 2 ≤ i → word (6 + 3 * j) ≡ reg t callee
   pub stored_arg : 3 ≤ i → word (7 + 3 * j) ≡ reg t arg
 
+-- a number drawn by the Spawn at which the thread stands
 abbrev pub Spawned : (ℕ → ℕ) → (ℕ → Option ℕ) → ℕ → Standing → Act → ℕ → ℕ → Type 0
 Spawned word spawner k t (Spawn to callee arg) j i = Drawn word spawner k t callee arg j i
 Spawned word spawner k t _ j i = ⊥
@@ -71,6 +72,7 @@ DormantEnd ending.Halted = Unit {0}
 DormantEnd ending.NeverStarted = Unit {0}
 DormantEnd e = ⊥
 
+-- a stage of a thread that nobody may have started
 abbrev pub Dormant : Stage → Type 0
 Dormant Idle = Unit {0}
 Dormant IdleStop = Unit {0}
@@ -78,9 +80,10 @@ Dormant IdleLive = Unit {0}
 Dormant (Over e) = DormantEnd e
 Dormant stage = ⊥
 
+-- the state stands for the configuration, and what is known besides of blocks, of drawn numbers and of sums
 pub record Simulation (p : Program) (c : Code) (o : Options) (s : Raw) (w : Config) : Type 0 where
   pub stands : StandsFor p c s w
-  -- 1. the block to which a word belongs, and the thread that makes a block
+  -- the block to which a word belongs, and the thread that makes a block
   pub base_of : ℕ → Option ℕ
   pub maker : ℕ → Option ℕ
   pub in_block : (b n i : ℕ) → s.blocks b ≡ Some n → i < n → base_of (b + i) ≡ Some b
@@ -89,7 +92,7 @@ pub record Simulation (p : Program) (c : Code) (o : Options) (s : Raw) (w : Conf
   pub within_heap : (a b : ℕ) → base_of a ≡ Some b → a < o.heap
   pub top : 197 ≤ s.word 0
   pub made : (b : ℕ) (cell : Cell) → w.heap.at b ≡ Some cell → maker b ≡ None
-  -- 4. the thread whose Spawn drew a number and hasn't stored its READY
+  -- the thread whose Spawn drew a number and hasn't stored its READY
   pub spawner : ℕ → Option ℕ
   pub undrawn : (j : ℕ) → s.word 1 ≤ j → spawner j ≡ None
   pub dormant : (j : ℕ) → ((n : ℕ) → slice_get s.born n ≡ Some j → ⊥) → Dormant (s.thread j).stage
@@ -97,7 +100,7 @@ pub record Simulation (p : Program) (c : Code) (o : Options) (s : Raw) (w : Conf
   pub born_drawn : (n j : ℕ) → slice_get s.born n ≡ Some j → (j < s.word 1) × (spawner j ≡ None)
   pub born_few : (n j : ℕ) → slice_get s.born n ≡ Some j → j < 64
   pub next : 1 ≤ s.word 1
-  -- 2 and 3. inside an instruction
+  -- inside an instruction
   pub inside : (k : ℕ) → Inside s.word w base_of maker spawner k (s.thread k) (s.thread k).stage (slice_get c.instrs (s.thread k).at)
   -- numbers of threads
   pub once : (m n k : ℕ) → slice_get s.born m ≡ Some k → slice_get s.born n ≡ Some k → m ≡ n
@@ -137,6 +140,7 @@ event_here c o s k answer s' e = record {
   prints = e.prints;
 }
 
+-- an event, where stage and instruction are known
 pub event_at : (c : Code) (o : Options) (s : Raw) (k : ℕ) (answer : Answer) (s' : Raw) (stage : Stage) (a : Option Instr) → Event c o s k answer s' → (s.thread k).stage ≡ stage → slice_get c.instrs (s.thread k).at ≡ a → EventAt c o s k answer s' stage a
 event_at c o s k answer s' stage a e p q =
     subst (λ (x : Stage). EventAt c o s k answer s' x a) p (subst (λ (x : Option Instr). EventAt c o s k answer s' (s.thread k).stage x) q (event_here c o s k answer s' e))

@@ -72,6 +72,7 @@ module _ (p : Program) (c : Code) (coded : Coded p c) (o : Options) (s : Raw) (w
       by_waits (Acquire_op x) d = lock_at x d.0 true d.1 d.2
       by_waits op d = absurd d
 
+  -- an instruction is sound where its command can act, stop, wait, choose, call or spawn
   pub sound_at : (values : Environment) (to : ℕ) (op : Op) (place : Place) (rest : List Command) (value : ℕ) (outer : List Level) (below : List Suspended) → AtCommand c s w k n values to op place rest value outer below → ThreadIsFine p w n
       → IsSoundAct c s (s.thread k) (act_of (s.thread k).at to op)
   sound_at values to op place rest value outer below at fine = by_can op at (fine_can p w n (next_of c s w k n values to op place rest value outer below at) fine)
@@ -113,6 +114,7 @@ module _ (p : Program) (c : Code) (coded : Coded p c) (o : Options) (s : Raw) (w
       let r = return_place c.instrs (length (s.thread k).regs) (s.thread k).at value stands in record { instr = instr r.0 (Return value); found = r.1; sound = tt }
   by_frame values commands value outer below is here regs (Comes_by_jump end place e stands) under fine = record { instr = instr place (Jump end); found = e; sound = tt }
 
+  -- and so is any at which a running thread stands
   pub runs_sound : {u : _} → IsFine p w → slice_get s.born n ≡ Some k → slice_get w.threads n ≡ Some u → StandsRunning c.instrs (s.thread k) u → IsSound c s (s.thread k)
   runs_sound safe is here r =
       by_frame r.top.env r.top.rest.commands r.top.rest.value r.top.outer r.below is (here ∙ ap Some r.is) r.frames.regs r.frames.place r.frames.under (safe.goes_on n r.top r.below (here ∙ ap Some r.is))

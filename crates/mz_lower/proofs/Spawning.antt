@@ -49,6 +49,7 @@ module _ (p : Program) (c : Code) (o : Options) (s s' : Raw) (w : Config) (S : S
   heap_word : (q x : ℕ) → S.base_of q ≡ Some x → s'.word q ≡ s.word q
   heap_word q x e = words q (λ z. omega (arith, z, low_spot, S.low q x e))
 
+  -- a Spawn's stores before READY keep the simulation: only its maker looks at them
   pub header_on : spot ≢ 0 → (s.word 1 ≤ s'.word 1) → (s'.word 1 ≤ s.word 1 + 1) → ThreadStands c.instrs p s'.word k t' u
       → ((j m : ℕ) → slice_get s.born m ≡ Some j → (6 + 3 * j ≢ spot) × (7 + 3 * j ≢ spot) × (spawner' j ≡ None))
       → ((j : ℕ) → 5 + 3 * j ≢ spot) → ((j : ℕ) → s'.word 1 ≤ j → spawner' j ≡ None)
@@ -108,10 +109,12 @@ at_end_or (z ∷ xs) x (suc n) y e = elim (at_end_or xs x n y e) [
   | inr h ↦ inr (ap suc h.0, h.1)
 ]
 
+-- the last element of a list
 pub at_last : {A : Type 0} (xs : List A) (x : A) → slice_get (xs ++ x ∷ []) (length xs) ≡ Some x
 at_last [] x = refl
 at_last (z ∷ xs) x = at_last xs x
 
+-- and those before it
 pub at_front : {A : Type 0} (xs : List A) (x : A) (n : ℕ) (y : A) → slice_get xs n ≡ Some y → slice_get (xs ++ x ∷ []) n ≡ Some y
 at_front [] x n y e = absurd (none_some refl e)
 at_front (z ∷ xs) x zero y e = e
@@ -238,6 +241,7 @@ module _ (p : Program) (c : Code) (o : Options) (s s' : Raw) (w : Config) (S : S
   other_spawner : (x : ℕ) → x ≢ j → spawner' x ≡ S.spawner x
   other_spawner x e = if_false (x == j) (ne_eqb x j e) None (S.spawner x)
 
+  -- the store of READY starts a named thread: from then on the number stands for it
   pub wakes : StepOn p c o s' w n
   wakes = (
     spawned_config,

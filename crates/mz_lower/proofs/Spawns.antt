@@ -132,6 +132,7 @@ module _ (p : Program) (c : Code) (coded : Coded p c) (o : Options) (limited : L
       (subst (λ (x : Option Instr). Inside s'.word w S.base_of S.maker S.spawner k (unit_at (Spawning j (i + 1)) (s.thread k)) (Spawning j (i + 1)) x) (sym instr_is)
       (record { mine = d.mine; low = d.low; high = d.high; few = omega (arith, few); stored_fun = fun_word; stored_arg = arg_word }))
 
+  -- each store of a Spawn; the last one gives its named step
   pub spawn_stores : (j i m : ℕ) → EventAt c o s k (Saw m) s' (Spawning j i) (Some (instr place (Spawn to callee arg))) → KeptAs p c o s s' w k (i == 3)
   spawn_stores j zero m e =
       let d = drawn_here (Saw m) j zero e in
@@ -164,8 +165,11 @@ module _ (p : Program) (c : Code) (coded : Coded p c) (o : Options) (limited : L
       let d = drawn_here (Saw m) j (suc (suc (suc zero))) e in
       let spot = 5 + 3 * j in
       let asked = counted_is o (s.thread k) (Stores spot 1) (Saw m) (λ h. h) e.may in
-      let f = event_as c o s k (Saw m) s' (Spawning j (suc (suc (suc zero)))) (Some (instr place (Spawn to callee arg))) (Stores spot 1) e asked.0 in
-      (n, at.is, wakes p c o s s' w S k n values to place rest value outer below callee arg j at it e.number d
-      (f.words spot ∙ if_true (spot == spot) (eq-eqb spot spot refl) 1 (s.word spot)) (λ q z. f.words q ∙ if_false (spot == q) (ne_eqb spot q (λ h. z (sym h))) 1 (s.word q))
-      e.blocks e.born (f.prints ∙ nil_right s.prints) e.others e.mine asked.1)
+      let f = event_as c o s k (Saw m) s' (Spawning j (suc (suc (suc zero)))) (Some (instr place (Spawn to callee arg))) (Stores spot 1) e asked.0 in (
+        n,
+        at.is,
+        wakes p c o s s' w S k n values to place rest value outer below callee arg j at it e.number d
+            (f.words spot ∙ if_true (spot == spot) (eq-eqb spot spot refl) 1 (s.word spot)) (λ q z. f.words q ∙ if_false (spot == q) (ne_eqb spot q (λ h. z (sym h))) 1 (s.word q))
+            e.blocks e.born (f.prints ∙ nil_right s.prints) e.others e.mine asked.1,
+      )
   spawn_stores j (suc (suc (suc (suc i)))) m e = absurd (omega (arith, (drawn_here (Saw m) j (suc (suc (suc (suc i)))) e).few))

@@ -21,6 +21,7 @@ use Rattle.mz_lower.proofs.Addresses.{some_inj}
 use Rattle.mz_lower.proofs.Changes.{total, total_one}
 use Rattle.mz_lower.proofs.Simulation.{Simulation, Taken, Spawned, Inside, Started, Dormant}
 
+-- the words of a thread's start are below those of blocks
 pub start_word : (a k : ℕ) → (a ≡ 6 + 3 * k) ⊎ (a ≡ 7 + 3 * k) → 5 ≤ a
 start_word a k (inl e) = omega (arith, e)
 start_word a k (inr e) = omega (arith, e)
@@ -39,6 +40,7 @@ end_words code p f g k t (ending.TakeFailed place) u h q = q
 end_words code p f g k t (ending.Arith place) u h q = q
 end_words code p f g k t e u h q = cut_words code p f g k t u h q
 
+-- a thread stands for the same where the words of its start are the same
 pub stage_words : (code : List Instr) (p : Program) (f g : ℕ → ℕ) (k : ℕ) (t : Standing) (stage : Stage) (u : Thread) → ((a : ℕ) → (a ≡ 6 + 3 * k) ⊎ (a ≡ 7 + 3 * k) → g a ≡ f a) → StageStands code p f k t stage u → StageStands code p g k t stage u
 unfolding waiting_words
 stage_words code p f g k t Idle u h q = waiting_words p f g k u h q
@@ -62,9 +64,11 @@ pub taken_goes : (f g : ℕ → ℕ) (base_of base_of' maker maker' : ℕ → Op
 taken_goes f g base_of base_of' maker maker' t (Take to block adopter) h q = let z = h (reg t block) q.1 q.2 in (z.0 ∙ q.0, z.1, z.2)
 taken_goes f g base_of base_of' maker maker' t a h q = absurd q
 
+-- what a Take has seen stays where its word does
 pub taken_still : (f g : ℕ → ℕ) (base_of maker : ℕ → Option ℕ) (t : Standing) (a : Act) → ((n : ℕ) → base_of (n + 1) ≡ Some n → maker n ≡ None → g (n + 1) ≡ f (n + 1)) → Taken f base_of maker t a → Taken g base_of maker t a
 taken_still f g base_of maker t a h q = taken_goes f g base_of base_of maker maker t a (λ n e d. (h n e d, e, d)) q
 
+-- a drawn number stays drawn where its words do
 pub spawned_still : (f g : ℕ → ℕ) (spawner : ℕ → Option ℕ) (k : ℕ) (t : Standing) (a : Act) (j i : ℕ) → ((m : ℕ) → 5 ≤ m → m < 197 → g m ≡ f m) → Spawned f spawner k t a j i → Spawned g spawner k t a j i
 spawned_still f g spawner k t (Spawn to callee arg) j i h q = record { mine = q.mine; low = q.low; high = q.high; few = q.few; stored_fun = λ l. h (6 + 3 * j) (omega arith) (omega (arith, q.high)) ∙ q.stored_fun l; stored_arg = λ l. h (7 + 3 * j) (omega arith) (omega (arith, q.high)) ∙ q.stored_arg l }
 spawned_still f g spawner k t a j i h q = absurd q
@@ -151,6 +155,7 @@ module _ (p : Program) (c : Code) (o : Options) (s s' : Raw) (w w' : Config) (S 
   total_up : total (λ j. (s'.thread j).units) 64 ≡ total (λ j. (s.thread j).units) 64 + q.more
   total_up = units_rise s.thread s'.thread k q.more q.number q.counts q.others
 
+  -- each part is as it was
   pub still_keeps : Simulation p c o s' w'
   still_keeps = record {
     stands = record {

@@ -51,9 +51,9 @@ module _ (p : Program) (c : Code) (o : Options) (s s' : Raw) (w : Config) (S : S
       n,
       at.is,
       (
-      gone p c o s s' w S k n e.number (λ z h. words z) e.blocks (e.born ∙ nil_right s.born) prints e.others at.is u0 Stopped at.here t' 1 (mine q) refl (omega (arith, asked.1)) refl (λ w2 h. tt),
-      Step_stops _ below _ rest (next_of c s w k n values to (Take_op x y) place rest value outer below at) (record { both = both; not_its = differs q }) (moves_on w n u0 Stopped at.here),
-      goes_with p c o s s' w S k n e.number (λ z h. words z) e.blocks (e.born ∙ nil_right s.born) prints e.others at.is u0 Stopped at.here t' 1 (mine q) refl (omega (arith, asked.1)) refl (λ w2 h. tt),
+        gone p c o s s' w S k n e.number (λ z h. words z) e.blocks (e.born ∙ nil_right s.born) prints e.others at.is u0 Stopped at.here t' 1 (mine q) refl (omega (arith, asked.1)) refl (λ w2 h. tt),
+        Step_stops _ below _ rest (next_of c s w k n values to (Take_op x y) place rest value outer below at) (record { both = both; not_its = differs q }) (moves_on w n u0 Stopped at.here),
+        goes_with p c o s s' w S k n e.number (λ z h. words z) e.blocks (e.born ∙ nil_right s.born) prints e.others at.is u0 Stopped at.here t' 1 (mine q) refl (omega (arith, asked.1)) refl (λ w2 h. tt),
       ),
     )
   ]

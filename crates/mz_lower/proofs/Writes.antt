@@ -30,6 +30,7 @@ use Rattle.mz_lower.proofs.OneWord.{change_keeps, no_adopter}
 put_cell : (b : ℕ) (cell : Cell) (at : ℕ → Option Cell) → ℕ → Option Cell
 put_cell b cell at m = if m == b then Some cell else at m
 
+-- a heap in which one cell is another
 pub put_heap : ℕ → Cell → Heap → Heap
 unfolding put_cell
 put_heap b cell heap = record {
@@ -38,6 +39,7 @@ put_heap b cell heap = record {
   beyond = λ m l. if_false (m == b) (ne_eqb m b (λ e. omega (arith, e, l))) (Some cell) (heap.at m) ∙ heap.beyond m (omega (arith, l));
 }
 
+-- just that cell is another
 pub put_puts : (b : ℕ) (cell : Cell) (heap : Heap) → Puts heap.at b cell (put_heap b cell heap).at
 unfolding put_cell put_heap
 put_puts b cell heap = record {
@@ -48,9 +50,11 @@ put_puts b cell heap = record {
 -- thread k stores at a word of a cell, and goes on with ()
 module _ (p : Program) (c : Code) (o : Options) (s s' : Raw) (w : Config) (S : Simulation p c o s w) (k n : ℕ) (values : Environment) (to : ℕ) (op : Op) (place : Place) (rest : List Command) (value : ℕ) (outer : List Level) (below : List Suspended)
     (at : AtCommand c s w k n values to op place rest value outer below) (one : size_op op ≡ 1) (b spot p0 : ℕ) (cell cell' : Cell) where
+  -- the configuration with the changed cell
   abbrev pub stored_config : Config
   stored_config = record { heap = put_heap b cell' w.heap; threads = slice_set w.threads n (bound_thread p c o s s' w S k n values to op place rest value outer below at one (Int_value 0) 0 0 0 0); prints = w.prints }
 
+  -- a store into a cell, at a known word
   pub stores_at : k < 64 → p0 ≡ b + spot → w.heap.at b ≡ Some cell → spot < cell_words cell → cell_words cell' ≡ cell_words cell → ((i : ℕ) → i ≢ spot → i < cell_words cell → cell_word cell' i ≡ cell_word cell i)
       → s'.word p0 ≡ cell_word cell' spot → ((q : ℕ) → q ≢ p0 → s'.word q ≡ s.word q) → ((m : ℕ) → s'.blocks m ≡ s.blocks m) → s'.born ≡ s.born → s'.prints ≡ s.prints → ((j : ℕ) → j ≢ k → s'.thread j ≡ s.thread j)
       → s'.thread k ≡ record { at = (s.thread k).at + 1; regs = slice_set (s.thread k).regs to 0; below = (s.thread k).below; units = (s.thread k).units + 1; lost = 0; stage = Border } → (s.thread k).units < o.steps
@@ -124,6 +128,7 @@ set_words con i (suc zero) adopter vs v n = refl
 set_words con i (suc (suc m)) adopter vs v n = set_off vs i m v (λ e. n (ap (λ x. suc (suc x)) e))
 
 module _ (p : Program) (c : Code) (o : Options) (s s' : Raw) (w : Config) (S : Simulation p c o s w) (k n : ℕ) (values : Environment) (to : ℕ) (place : Place) (rest : List Command) (value : ℕ) (outer : List Level) (below : List Suspended) where
+  -- an Acquire that is won
   pub acquire_next : (x m : ℕ) → AtCommand c s w k n values to (Acquire_op x) place rest value outer below → ThreadIsFine p w n
       → EventAt c o s k (Saw m) s' Ready (Some (instr place (Acquire to x))) → StepOn p c o s' w n
   acquire_next x m at fine e = by_can (fine_can p w n (next_of c s w k n values to (Acquire_op x) place rest value outer below at) fine)
@@ -154,6 +159,7 @@ module _ (p : Program) (c : Code) (o : Options) (s s' : Raw) (w : Config) (S : S
       by_can (Can_call callee2 args2 q2 g2) = absurd (cc)
       by_can (Can_spawn callee2 arg2 q2 g2) = absurd (cc)
 
+  -- a Release
   pub release_next : (x m : ℕ) → AtCommand c s w k n values to (Release_op x) place rest value outer below → ThreadIsFine p w n
       → EventAt c o s k (Saw m) s' Ready (Some (instr place (Release to x))) → StepOn p c o s' w n
   release_next x m at fine e = by_can (fine_can p w n (next_of c s w k n values to (Release_op x) place rest value outer below at) fine)
@@ -179,6 +185,7 @@ module _ (p : Program) (c : Code) (o : Options) (s s' : Raw) (w : Config) (S : S
       by_can (Can_call callee2 args2 q2 g2) = absurd (cc)
       by_can (Can_spawn callee2 arg2 q2 g2) = absurd (cc)
 
+  -- a Write
   pub write_next : (x con i y m : ℕ) → AtCommand c s w k n values to (Write_op x con i y) place rest value outer below → ThreadIsFine p w n
       → EventAt c o s k (Saw m) s' Ready (Some (instr place (Write to x con i y))) → StepOn p c o s' w n
   write_next x con i y m at fine e = by_can (fine_can p w n (next_of c s w k n values to (Write_op x con i y) place rest value outer below at) fine)
@@ -212,6 +219,7 @@ module _ (p : Program) (c : Code) (o : Options) (s s' : Raw) (w : Config) (S : S
       by_can (Can_call callee2 args2 q2 g2) = absurd (cc)
       by_can (Can_spawn callee2 arg2 q2 g2) = absurd (cc)
 
+  -- a Retag
   pub retag_next : (x old new m : ℕ) → AtCommand c s w k n values to (Retag_op x old new) place rest value outer below → ThreadIsFine p w n
       → EventAt c o s k (Saw m) s' Ready (Some (instr place (Retag to x old new))) → StepOn p c o s' w n
   retag_next x old new m at fine e = by_can (fine_can p w n (next_of c s w k n values to (Retag_op x old new) place rest value outer below at) fine)

@@ -35,7 +35,7 @@ module _ (p : Program) (s : Scoped p) (spelling : List (List ℕ)) (most : ℕ) 
         let more = commands_up p (after_op n op + 1) rest in
         let to_is = k.0.0 in
         let r = commands_fit (with_bound p spelling scope (The_command to op place)) (after_op n op + 1) value rest
-            (subst (λ m. AllBelow (with_bound p spelling scope (The_command to op place)) (m + 1)) to_is (with_below scope n to (bound_by p spelling to op).function (omega arith) all)) few k.1 in
+        (subst (λ m. AllBelow (with_bound p spelling scope (The_command to op place)) (m + 1)) to_is (with_below scope n to (bound_by p spelling to op).function (omega arith) all)) few k.1 in
         (((omega arith, op_fits scope n to op all (omega arith) k.0.1), r.0), r.1)
 
     op_fits : (scope : Scope) (n to : ℕ) (op : Op) → AllBelow scope n → after_op n op ≤ most → IsOp p spelling scope n to op → OpFits most op

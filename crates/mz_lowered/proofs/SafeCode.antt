@@ -18,7 +18,7 @@ pub lowers_safely : LowersSafely
 lowers_safely p scoped safe =
     let start = opening p scoped in
     let runs : (o : Options) (first s : Raw) → o.steps ≤ most_steps → IsReached (code_of p) o first s → StandsSafely p (code_of p) o first start.0 s =
-        λ o first s few reached. all_stand p o first s start.0 (lowerable p scoped) few reached.0 start.1 safe reached.1 in
+    λ o first s few reached. all_stand p o first s start.0 (lowerable p scoped) few reached.0 start.1 safe reached.1 in
     record {
       tame = record {
         in_range = code_range p scoped;

@@ -127,7 +127,10 @@ fn instr_told(alloc: Global, place: Place, act: &Act, out: &mut String) -> Resul
 pub(super) fn told(alloc: Global, code: &Code) -> Result<String, Fail> {
     let mut out = format!(in alloc; "main {}\n", code.main)?;
     for entry in code.entries.as_slice() {
-        let text = format!(in alloc; "entry {} {} {}\n", entry.first, entry.params, entry.registers)?;
+        let text = format!(in alloc;
+            "entry {} {} {}\n",
+            entry.first, entry.params, entry.registers
+        )?;
         out.push_str(&text)?;
     }
     for instr in code.instrs.as_slice() {
