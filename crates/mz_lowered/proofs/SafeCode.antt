@@ -1,10 +1,7 @@
 -- The code of a program that is safe by name is safe, and so is that of one with a derivation.
 use Rattle.std.specs.Prelude.{◌≤◌}
-use Rattle.mz_tree.specs.Programs.{Program}
-use Rattle.mz_tree.specs.Scoped.{Scoped}
 use Rattle.mz_words.specs.declared.options.Options.{Options}
 use Rattle.mz_words.specs.Raw.{Raw}
-use Rattle.mz_named.specs.Safety.{NamedSafe}
 use Rattle.mz_lower.specs.Layout.{code_of}
 use Rattle.mz_lower.specs.Laws.{StandsSafely}
 use Rattle.mz_lower.specs.Safe.{most_steps, IsReached}

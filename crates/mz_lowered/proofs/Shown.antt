@@ -2,7 +2,7 @@
 use Rattle.std.proofs.Common.{[], ◌∷◌, None, refl}
 use Rattle.mz_words.specs.declared.code.Code.{Code}
 use Rattle.mz_words.specs.Steps.{opening}
-use Rattle.mz_words.specs.Raw.{Raw, Opens, opening_word}
+use Rattle.mz_words.specs.Raw.{Raw, opening_word}
 use Rattle.mz_lower.specs.Layout.{code_of}
 use Rattle.mz_lower.specs.Safe.{Safe}
 use Rattle.mz_resource.specs.Examples.{doubling, doubling_scripts}
