@@ -51,16 +51,21 @@ fn tapes_keep_their_entries_in_order(rt: HostRuntime) -> Result<(), Fail> {
     Ok(())
 }
 
+/// Whether the call of a row comes to what the row says.
+fn row_is_so(alloc: Global, words: &mut PlainWords, row: &str) -> Result<bool, Fail> {
+    let columns: Vec<&str> = row.split('|').collect(alloc)?;
+    let call = columns.get(1).ok_or("a row has no call")?;
+    let wanted = columns.get(2).ok_or("a row has no answer")?;
+    let found = told(alloc, words, 0, call)?;
+    Ok(found.as_str() == wanted.trim())
+}
+
 #[test]
 fn calls_are_answered(rt: HostRuntime) -> Result<(), Fail> {
     let alloc = rt.alloc();
     let mut words = PlainWords::start(alloc, 1024, 7)?;
     for row in CALLS.lines() {
-        let columns: Vec<&str> = row.split(" | ").collect(alloc)?;
-        let call = columns.get(1).ok_or("a row has no call")?;
-        let wanted = columns.get(2).ok_or("a row has no answer")?;
-        let found = told(alloc, &mut words, 0, call)?;
-        assert_eq!(rt; found.as_str(), *wanted, "{row}");
+        assert!(rt; row_is_so(alloc, &mut words, row)?, "{row}");
     }
     Ok(())
 }

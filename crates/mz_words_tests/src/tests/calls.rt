@@ -56,7 +56,8 @@ pub(crate) fn told(
         return Ok(format!(in alloc; "{answer}, no entry, {lost} lost")?);
     }
     let entry = tape.iter().last().ok_or("there is no entry")?;
-    Ok(
-        format!(in alloc; "{answer}, {:?} {} {} {}, {lost} lost", entry.kind, entry.place, entry.value, entry.seen)?,
-    )
+    Ok(format!(in alloc;
+        "{answer}, {:?} {} {} {}, {lost} lost",
+        entry.kind, entry.place, entry.value, entry.seen
+    )?)
 }
