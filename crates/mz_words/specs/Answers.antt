@@ -1,4 +1,7 @@
--- What an answer may be, what entry it makes, and what it does to the words.
+-- What an ask may be answered, which step an answer makes, and what the step does to the words.
+--
+-- A look, a try and a refusal are free: they may be answered without an entry whatever the words hold. What makes an entry
+-- has seen what the words held.
 use Rattle.std.specs.Prelude.{◌≡◌, ◌≢◌, ℕ, ◌+◌, ◌-◌, ◌%◌, ◌^◌, max, ◌==◌, if◌then◌else◌, Option, Some, None}
 use Rattle.mz_tape.specs.declared.entry.Kind.{Kind}
 use Rattle.mz_tape.specs.declared.entry.Kind.TheVariants as kind
@@ -9,11 +12,13 @@ use Rattle.mz_words.specs.declared.asks.Ask.TheVariants.{Local, Frames, Looks, S
 use Rattle.mz_words.specs.declared.asks.Answer.{Answer}
 use Rattle.mz_words.specs.declared.asks.Answer.TheVariants.{Saw, Quiet, Missed, Refused}
 
+-- a word is what a look waits for
 abbrev pub Meets : Until → ℕ → Type 0
 Meets Zero n = n ≡ 0
 Meets NotZero n = n ≢ 0
 
--- what a step may have seen, whatever the words
+-- what a step may have seen, whatever the words. A look makes its entry only where it is met; a store doesn't look, and a
+-- try that is won saw 0
 abbrev pub MaySee : Ask → ℕ → Type 0
 MaySee (Looks p until) n = Meets until n
 MaySee (Starts p) n = Unit {0}
@@ -26,17 +31,20 @@ MaySee Stops n = Unit {0}
 MaySee Leaves n = Unit {0}
 MaySee _ n = ⊥
 
+-- what may be answered without an entry: an act without a step, and a look that isn't met
 abbrev pub MayStay : Ask → Type 0
 MayStay Local = Unit {0}
 MayStay (Frames n) = Unit {0}
 MayStay (Looks p until) = Unit {0}
 MayStay _ = ⊥
 
+-- what may fail: a try
 abbrev pub MayMiss : Ask → Type 0
 MayMiss (Tries p) = Unit {0}
 MayMiss _ = ⊥
 
--- memory is refused directly before a word step or a try of an instruction, or before a frame is made
+-- where memory may be refused: directly before a step or a try of an instruction, and before a frame is made. The room of a
+-- thread's start and end is made before it runs
 abbrev pub MayRefuse : Ask → Type 0
 MayRefuse (Frames n) = Unit {0}
 MayRefuse (Loads p) = Unit {0}
@@ -46,18 +54,20 @@ MayRefuse (Tries p) = Unit {0}
 MayRefuse (Prints v) = Unit {0}
 MayRefuse _ = ⊥
 
+-- an ask may get this answer
 abbrev pub May : Ask → Answer → Type 0
 May a (Saw n) = MaySee a n
 May a Quiet = MayStay a
 May a Missed = MayMiss a
 May a Refused = MayRefuse a
 
--- the one step: its place, its kind and its operand
+-- a step on one word: its place, its kind and its operand
 pub record Move : Type 0 where
   pub place : ℕ
   pub kind : Kind
   pub value : ℕ
 
+-- the step that is asked for, if one is
 abbrev pub move_of : Ask → Option Move
 move_of (Looks p until) = Some (record { place = p; kind = kind.Load; value = 0 })
 move_of (Starts p) = Some (record { place = p; kind = kind.Load; value = 0 })
@@ -70,7 +80,7 @@ move_of Stops = Some (record { place = 3; kind = kind.Max; value = 1 })
 move_of Leaves = Some (record { place = 2; kind = kind.Sub; value = 1 })
 move_of _ = None
 
--- the step that an answer makes: only what was seen makes one
+-- the step that an answer makes: only one that saw something makes one
 abbrev pub moved : Ask → Answer → Option Move
 moved a (Saw n) = move_of a
 moved a _ = None
@@ -85,17 +95,18 @@ word_after kind.Max value old = max old value
 word_after kind.Lock value old = 1
 word_after kind.Print value old = (old + 1) % 2 ^ 64
 
--- what a step of this kind has to have seen, where the word is `old`
+-- what a step of this kind has seen, where the word is `old`: a lock finds it free
 abbrev pub HasSeen : Kind → ℕ → ℕ → Type 0
 HasSeen kind.Store seen old = seen ≡ 0
 HasSeen kind.Lock seen old = (seen ≡ 0) × (old ≡ 0)
 HasSeen _ seen old = seen ≡ old
 
+-- the step saw what the words hold
 abbrev pub AgreesBy : Option Move → ℕ → (ℕ → ℕ) → Type 0
 AgreesBy None n word = Unit {0}
 AgreesBy (Some m) n word = HasSeen m.kind n (word m.place)
 
--- the answer agrees with the words
+-- the answer agrees with the words: its step, if it makes one, saw what they hold
 abbrev pub Agrees : Ask → Answer → (ℕ → ℕ) → Type 0
 Agrees a (Saw n) word = AgreesBy (move_of a) n word
 Agrees a _ word = Unit {0}

@@ -1,5 +1,8 @@
--- What no thread of a run does: an act at a word that isn't one of a complete block of the right shape, a switch without a
--- case, a call of what is no function, and two threads at one word of which one writes it.
+-- States without a fault and without a race.
+--
+-- A fault is an act at a word that isn't one of a complete block of the right shape, a switch without a case, or a call of
+-- what is no function. A race is two threads at one tag or field, of which one stores. Adopters, locks and the header are
+-- shared: there two threads may meet.
 use Rattle.std.specs.Prelude.{◌≡◌, ◌≢◌, ◌⊎◌, ℕ, ◌+◌, ◌<◌, length, Some, slice_get}
 use Rattle.mz_words.specs.declared.code.Act.{Act}
 use Rattle.mz_words.specs.declared.code.Act.TheVariants.{Read, Write, Retag, Switch, Call, Give, Take, Acquire, Release, Spawn}
@@ -17,7 +20,7 @@ use Rattle.mz_tape.specs.declared.entry.Kind.TheVariants.{Store}
 use Rattle.mz_words.specs.Answers.{Move, move_of}
 use Rattle.mz_words.specs.Raw.{Raw}
 
--- ---- D13: what a running thread's next act may be
+-- ---- what the act of a running thread may be
 
 -- a complete block stands there
 pub record HasBlock (s : Raw) (b : ℕ) : Type 0 where
@@ -30,6 +33,7 @@ pub record HasField (s : Raw) (b con field : ℕ) : Type 0 where
   pub tag : s.word b ≡ con + 1
   pub within : field < block.fields
 
+-- an act finds blocks, locks and functions where it needs them. A thread knows the constructor that it reads, writes or changes
 abbrev pub IsSoundAct : Code → Raw → Standing → Act → Type 0
 IsSoundAct c s t (Read to block con field) = HasField s (reg t block) con field
 IsSoundAct c s t (Write to block con field source) = HasField s (reg t block) con field
@@ -58,6 +62,7 @@ pub record IsSound (c : Code) (s : Raw) (t : Standing) : Type 0 where
   pub found : slice_get c.instrs t.at ≡ Some instr
   pub sound : IsSoundAct c s t instr.act
 
+-- no thread is at a fault
 pub record NoFault (c : Code) (o : Options) (s : Raw) : Type 0 where
   pub acts : (k : ℕ) → IsAtInstruction (s.thread k).stage → IsSound c s (s.thread k)
   -- whoever asks nothing is over: no place is outside the words, and no step is missing
@@ -65,12 +70,13 @@ pub record NoFault (c : Code) (o : Options) (s : Raw) : Type 0 where
   -- each word of a complete block is inside the heap
   pub inside : (b n i : ℕ) → s.blocks b ≡ Some n → i < n → b + i < o.heap
 
--- ---- D14: where two threads' next word steps may meet, one of them a store
+-- ---- where the next steps of two threads may meet, one of them a store
 
 -- a word of the header, the adopter word of a complete block, or that of a lock: no tag and no field
 abbrev pub MayMeet : Raw → ℕ → Type 0
 MayMeet s a = (a < 197) ⊎ (((b : ℕ) × HasBlock s b × (a ≡ b + 1)) ⊎ (s.blocks a ≡ Some 1))
 
+-- no two threads race
 pub record NoRace (c : Code) (o : Options) (s : Raw) : Type 0 where
   pub meet : (j k : ℕ) → j < 64 → k < 64 → j ≢ k → (m n : Move) → move_of (ask c o j (s.thread j)) ≡ Some m → move_of (ask c o k (s.thread k)) ≡ Some n → m.place ≡ n.place → m.kind ≡ Store → MayMeet s m.place
   -- so no two meet at the tag word or at a field word of a complete block

@@ -1,4 +1,14 @@
--- The machine of one thread: what it asks of the words next, and where each answer leads it.
+-- The machine of one thread: what it asks next, and where each answer leads it.
+--
+-- A thread stands at a stage. At `Border` it is before an instruction and looks whether it has to stop; at `Ready` it is at
+-- the instruction's first step, and where the instruction has more steps a stage of its own counts them. An instruction's
+-- ask doesn't depend on the words, so a try that failed is asked again behind another look. A state that no run reaches
+-- asks nothing, and an answer that its ask can't get leaves a thread where it is.
+--
+-- The words below 197 are a header: 0 the next free word, 1 the next thread number, 2 how many threads are alive, 3 whether
+-- all have to stop, 4 the next ticket; and of thread k 5 + 3k whether it may start, 6 + 3k its function and 7 + 3k its
+-- argument. A block stands at an address: its tag, which is the number of its constructor plus 1, its adopter, which is 0
+-- where it has none, and its fields. A lock is one word.
 use Rattle.std.specs.Prelude.{ℕ, zero, suc, ◌+◌, ◌*◌, ◌-◌, leb, ltb, ◌==◌, Bool, if◌then◌else◌, List, [], ◌∷◌, ◌++◌, length, map, Option, Some, None, slice_get, slice_index_or, slice_set}
 use Rattle.mz_tree.specs.declared.types.Place.{Place}
 use Rattle.mz_tree.specs.Arithmetic.{computed}
@@ -58,22 +68,23 @@ abbrev pub made_word : Standing → Act → ℕ → ℕ
 made_word t (New to con fields) i = new_word con (map (reg t) fields) i
 made_word t _ i = 0
 
--- the target of the case that has this tag
+-- the target of the constructor that has this tag
 abbrev pub case_at : List ℕ → List ℕ → ℕ → Option ℕ
 case_at (con ∷ cons) (target ∷ targets) tag = if con + 1 == tag then Some target else case_at cons targets tag
 case_at _ _ tag = None
 
+-- how many registers the frames have that wait
 abbrev pub registers_of : List Waiting → ℕ
 registers_of [] = 0
 registers_of (w ∷ below) = length w.regs + registers_of below
 
--- whether the callee's registers are too many
+-- whether the registers of all frames would be too many with those of the callee
 abbrev pub is_full : Standing → Start → Bool
 is_full t s = ltb 1048576 (length t.regs + registers_of t.below + s.registers)
 
 -- ---- what is asked
 
--- a thread with `steps` units asks for no other: its next event is its own end
+-- an act that makes a unit. A thread with `steps` units asks for no other: its next event is its own end
 abbrev pub counted : Options → Standing → Ask → Ask
 counted o t a = if leb o.steps t.units then Local else a
 
@@ -81,14 +92,17 @@ counted o t a = if leb o.steps t.units then Local else a
 abbrev pub placed : Options → ℕ → Ask → Ask
 placed o place a = if ltb place o.heap then a else Nothing
 
+-- a call wants a frame, where there is such a function and its registers aren't too many
 abbrev pub ask_call : Standing → Option Start → Ask
 ask_call t None = Nothing
 ask_call t (Some s) = if is_full t s then Local else Frames s.registers
 
+-- a spawn draws a thread number, where there is such a function
 abbrev pub ask_spawn : Option Start → Ask
 ask_spawn None = Nothing
 ask_spawn (Some s) = Adds 1 1
 
+-- the first frame of a thread
 abbrev pub ask_frame : Option Start → Ask
 ask_frame None = Nothing
 ask_frame (Some s) = Frames s.registers
@@ -115,16 +129,18 @@ ask_act c o t (Release to lock) = counted o t (placed o (reg t lock) (Stores (re
 ask_act c o t (Spawn to callee arg) = counted o t (ask_spawn (callee_of c (reg t callee) 1))
 ask_act c o t (Print to source) = counted o t (Prints (reg t source))
 
--- a step inside an instruction; a state that no run reaches asks nothing
+-- the store of the i-th word of what is made; of no other instruction
 abbrev pub ask_making : Options → Standing → Act → ℕ → ℕ → Ask
 ask_making o t (New to con fields) base i = counted o t (placed o (base + i) (Stores (base + i) (made_word t (New to con fields) i)))
 ask_making o t (NewLock to) base i = counted o t (placed o (base + i) (Stores (base + i) 0))
 ask_making o t _ base i = Nothing
 
+-- the store that clears the adopter which a take saw
 abbrev pub ask_taking : Options → Standing → Act → Ask
 ask_taking o t (Take to block adopter) = counted o t (placed o (reg t block + 1) (Stores (reg t block + 1) 0))
 ask_taking o t _ = Nothing
 
+-- the steps of a spawn that drew number k: one more thread is alive; its function; its argument; and last that it may start
 abbrev pub spawn_step : Standing → ℕ → ℕ → ℕ → ℕ → Ask
 spawn_step t callee arg k zero = Adds 2 1
 spawn_step t callee arg k (suc zero) = Stores (6 + 3 * k) (reg t callee)
@@ -135,14 +151,17 @@ abbrev pub ask_spawning : Options → Standing → Act → ℕ → ℕ → Ask
 ask_spawning o t (Spawn to callee arg) k i = counted o t (spawn_step t callee arg k i)
 ask_spawning o t _ k i = Nothing
 
+-- the entry that closes a record: at the end of the first frame one thread less is alive, and after another end all have to
+-- stop
 abbrev pub ask_closing : End → Ask
 ask_closing ending.Done = Leaves
 ask_closing _ = Stops
 
--- how many parameters the first function of a thread has
+-- how many parameters the first function of thread k has: that of thread 0 is `main`
 abbrev pub first_params : ℕ → ℕ
 first_params k = if k == 0 then 0 else 1
 
+-- what is asked at an instruction, and where there is none
 abbrev pub ask_instr : Code → Options → Standing → Stage → Instr → Ask
 ask_instr c o t Border i = Looks 3 NotZero
 ask_instr c o t Ready i = ask_act c o t i.act
@@ -155,6 +174,7 @@ abbrev pub ask_found : Code → Options → Standing → Stage → Option Instr 
 ask_found c o t stage None = Nothing
 ask_found c o t stage (Some i) = ask_instr c o t stage i
 
+-- what is asked at a stage: before the thread has started up to three looks, then two loads and a frame
 abbrev pub ask_at : Code → Options → ℕ → Standing → Stage → Option Instr → Ask
 ask_at c o k t Idle a = Looks (5 + 3 * k) NotZero
 ask_at c o k t IdleStop a = Looks 3 NotZero
@@ -173,6 +193,7 @@ ask c o k t = ask_at c o k t t.stage (slice_get c.instrs t.at)
 
 -- ---- where an answer leads
 
+-- only the entry that closes the record is left
 abbrev pub stop : End → Standing → Standing
 stop e t = record t { stage = Closing e }
 
@@ -183,18 +204,21 @@ gives to value t = record { at = t.at + 1; regs = slice_set t.regs to value; bel
 abbrev pub goes_to : ℕ → Standing → Standing
 goes_to target t = record { at = target; regs = t.regs; below = t.below; units = t.units; lost = t.lost; stage = Border }
 
--- one more entry of an instruction
+-- one more entry of an instruction, which is a unit and ends a row of failed tries
 abbrev pub unit_at : Stage → Standing → Standing
 unit_at stage t = record { at = t.at; regs = t.regs; below = t.below; units = t.units + 1; lost = 0; stage = stage }
 
+-- arithmetic gives its result, or stops the thread where there is none
 abbrev pub gives_or : Place → ℕ → Option ℕ → Standing → Standing
 gives_or place to None t = stop (ending.Arith place) t
 gives_or place to (Some n) t = gives to n t
 
+-- back in the frame that waits, or the end of the first frame
 abbrev pub returns : ℕ → List Waiting → Standing → Standing
 returns value [] t = stop ending.Done t
 returns value (w ∷ below) t = record { at = w.at; regs = slice_set w.regs w.to value; below = below; units = t.units; lost = t.lost; stage = Border }
 
+-- a call is a unit: the frame waits behind its instruction, and the callee begins
 abbrev pub calls : ℕ → List ℕ → Option Start → Standing → Standing
 calls to args None t = t
 calls to args (Some s) t = record {
@@ -210,6 +234,7 @@ calls to args (Some s) t = record {
 abbrev pub full_or_spent : Options → Place → Standing → Standing
 full_or_spent o place t = if leb o.steps t.units then stop ending.Spent t else stop (ending.StackFull place) t
 
+-- an act without a step; where an act makes a unit, the thread had none left or its stack was full
 abbrev pub take_local : Options → Place → Standing → Act → Standing
 take_local o place t (Const to value) = gives to value t
 take_local o place t (Copy to source) = gives to (reg t source) t
@@ -220,10 +245,12 @@ take_local o place t (Return source) = returns (reg t source) t.below t
 take_local o place t (Call to callee args) = full_or_spent o place t
 take_local o place t _ = stop ending.Spent t
 
+-- an act whose frame is made
 abbrev pub take_frame : Code → Standing → Act → Standing
 take_frame c t (Call to callee args) = calls to args (callee_of c (reg t callee) (length args)) t
 take_frame c t _ = t
 
+-- a switch goes to the target, if any constructor has the tag
 abbrev pub switched : Option ℕ → Standing → Standing
 switched None t = unit_at Unmatched t
 switched (Some target) t = goes_to target (unit_at Border t)
@@ -244,33 +271,38 @@ take_saw o place t (Spawn to callee arg) n = if ltb n 64 then unit_at (Spawning 
 take_saw o place t (Print to source) n = gives to 0 (unit_at Ready t)
 take_saw o place t _ n = t
 
+-- the register that gets what is made, and its address
 abbrev pub result_of : Act → ℕ → ℕ × ℕ
 result_of (New to con fields) base = (to, base)
 result_of (NewLock to) base = (to, base)
 result_of _ base = (0, 0)
 
+-- one more word of what is made is stored
 abbrev pub made_one : Standing → Act → ℕ → ℕ → Standing
 made_one t a base i = if i + 1 == made_words a then gives (result_of a base).0 base (unit_at Ready t) else unit_at (Making base (i + 1)) t
 
+-- the adopter is cleared
 abbrev pub take_done : Standing → Act → Standing
 take_done t (Take to block adopter) = gives to 0 (unit_at Ready t)
 take_done t _ = t
 
+-- one more step of a spawn
 abbrev pub spawned_one : Standing → Act → ℕ → ℕ → Standing
 spawned_one t (Spawn to callee arg) k i = if i == 3 then gives to 0 (unit_at Ready t) else unit_at (Spawning k (i + 1)) t
 spawned_one t _ k i = t
 
--- a failed try
+-- a failed try: the thread gives up where it has made as many as it may, and else looks again whether it has to stop
 abbrev pub missed_one : Options → Place → Standing → Standing
 missed_one o place t = if t.lost + 1 == o.tries
     then record t { lost = t.lost + 1; stage = Closing (ending.Blocked place) }
     else record t { lost = t.lost + 1; stage = Border }
 
--- the quiet answer to a Frames, or to a Local
+-- the answer without an entry: a frame is made, or an act without a step
 abbrev pub take_quiet : Code → Options → Standing → Instr → Ask → Standing
 take_quiet c o t i (Frames n) = take_frame c t i.act
 take_quiet c o t i _ = take_local o i.place t i.act
 
+-- where an answer leads at an instruction, and where there is none
 abbrev pub take_instr : Code → Options → Standing → Stage → Instr → Answer → Standing
 take_instr c o t Border i (Saw n) = record t { lost = 0; stage = Over ending.Halted }
 take_instr c o t Border i Quiet = record t { stage = Ready }
@@ -293,10 +325,12 @@ abbrev pub take_found : Code → Options → Standing → Stage → Option Instr
 take_found c o t stage None answer = t
 take_found c o t stage (Some i) answer = take_instr c o t stage i answer
 
+-- the first frame of thread k is made, with the argument that was loaded, but for thread 0
 abbrev pub enters : ℕ → ℕ → Option Start → Standing → Standing
 enters k arg None t = t
 enters k arg (Some s) t = record { at = s.first; regs = frame_of (if k == 0 then [] else arg ∷ []) s; below = []; units = t.units; lost = t.lost; stage = Border }
 
+-- where an answer leads at a stage
 abbrev pub take_at : Code → Options → ℕ → Standing → Stage → Option Instr → Answer → Standing
 take_at c o k t Idle a (Saw n) = record t { stage = LoadFun }
 take_at c o k t Idle a Quiet = record t { stage = IdleStop }
@@ -316,9 +350,10 @@ take_at c o k t Taking a answer = take_found c o t Taking a answer
 take_at c o k t (Spawning j i) a answer = take_found c o t (Spawning j i) a answer
 take_at c o k t stage a answer = t
 
+-- where an answer leads thread k
 unfoldable pub take_step : Code → Options → ℕ → Standing → Answer → Standing
 take_step c o k t answer = take_at c o k t t.stage (slice_get c.instrs t.at) answer
 
--- a thread that hasn't started
+-- where each thread stands at the opening
 abbrev pub opening : Standing
 opening = record { at = 0; regs = []; below = []; units = 0; lost = 0; stage = Idle }
