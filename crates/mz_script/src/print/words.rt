@@ -2,10 +2,10 @@
 //!
 //! Each function writes its part behind a text, and nothing else. It fails only where memory is wanting; what was written
 //! then is left there.
-ghost use Rattle.std.specs.Prelude.{◌≡◌, ◌++◌, OnOk, codes, decimal, map};
+ghost use Rattle.std.specs.Prelude.{◌≡◌, ◌++◌, OnOk, codes, decimal, map, slice_get};
 ghost use Rattle.mz_tree.specs.Plain.{atoms_of};
 ghost use Rattle.mz_tree.specs.View.{plain_atom, plain_atoms, plain_field, plain_program, plain_ty};
-ghost use Rattle.mz_script.specs.Words.{adopts_text, atom_text, atoms_text, block_text, data_text, fields_text, name_text, sig_text, type_text};
+ghost use Rattle.mz_script.specs.Words.{adopts_text, atom_text, atoms_text, block_text, con_fields, con_name, data_text, fields_text, name_text, sig_text, type_text};
 
 use itoa::Buffer;
 use mz_tree::{Atom, Field, Memory, Names, Program, Ty};
@@ -89,6 +89,26 @@ fn fields(out: &mut Vec<u8>, fields: &[Field], names: &[u32]) -> Result<(), Memo
     Ok(())
 }
 
+// A constructor by its name.
+fn con_name(out: &mut Vec<u8>, program: &Program, con: u32) -> Result<(), Memory>
+    ensures { OnOk result (out.new.items ≡ out.old.items ++ con_name (slice_get (plain_program program.now).cons con)) }
+{
+    match program.cons.get(con as usize) {
+        Some(found) => text(out, found.name.as_slice()),
+        None => Ok(()),
+    }
+}
+
+// The fields of a constructor, with these names.
+fn con_fields(out: &mut Vec<u8>, program: &Program, con: u32, names: &[u32]) -> Result<(), Memory>
+    ensures { OnOk result (out.new.items ≡ out.old.items ++ fields_text (codes " ") (con_fields (slice_get (plain_program program.now).cons con)) names.now) }
+{
+    match program.cons.get(con as usize) {
+        Some(found) => fields(out, found.fields.as_slice(), names),
+        None => Ok(()),
+    }
+}
+
 // A structural type.
 fn block(
     out: &mut Vec<u8>,
@@ -99,18 +119,14 @@ fn block(
 ) -> Result<(), Memory>
     ensures { OnOk result (out.new.items ≡ out.old.items ++ block_text (plain_program program.now) con names.now adopts) }
 {
-    match program.cons.get(con as usize) {
-        Some(found) => {
-            text(out, found.name.as_slice())?;
-            text(out, b" {")?;
-            fields(out, found.fields.as_slice(), names.as_slice())?;
-        }
-        None => text(out, b" {")?,
-    }
+    con_name(out, program, con)?;
+    text(out, b" {")?;
+    con_fields(out, program, con, names.as_slice())?;
     text(out, b" }")?;
     adopted(out, program, adopts)
 }
 
+// What a name holds.
 #[cycle(types)]
 fn ty(out: &mut Vec<u8>, program: &Program, ty: &Ty) -> Result<(), Memory>
     ensures { OnOk result (out.new.items ≡ out.old.items ++ type_text (plain_program program.now) (plain_ty ty.now)) }
