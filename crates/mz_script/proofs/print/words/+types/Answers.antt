@@ -1,4 +1,4 @@
-use Rattle.std.proofs.Common.{◌≡◌, ◌++◌, OnOk, codes, ap, sym, subst, ◌∙◌}
+use Rattle.std.proofs.Common.{◌≡◌, ◌++◌, OnOk, ap, sym, subst, ◌∙◌}
 use Rattle.mz_tree.specs.Plain.{Lock_type, atoms_of}
 use Rattle.mz_tree.specs.View.{plain_ty, plain_atoms, plain_program}
 use Rattle.mz_tree.proofs.Views.{plain_lock}
