@@ -20,8 +20,8 @@ use mz_tree::{Atom, Fun, Memory, Program};
 use std::alloc::Global;
 use words::text;
 
-/// The text of a derivation that has the form of a script for this program and names only what can be written. It is read back as
-/// the same derivation. It fails only where memory is wanting.
+/// The text of a derivation, which has the form of a script for this program and names only what can be written. Where the program
+/// is one that was read, no other derivation has this text. It fails only where memory is wanting.
 pub fn print_script(
     alloc: Global,
     program: &Program,
