@@ -13,3 +13,4 @@ pub mod ProgramNames
 pub mod Exact
 pub mod Cuts
 pub mod NoEnds
+pub mod Printing

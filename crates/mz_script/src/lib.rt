@@ -15,5 +15,7 @@
 #![tactic(auto)]
 
 mod laws;
+mod print;
 
 pub use laws::{at_most_one_derivation, at_most_one_text, spelled_has_text};
+pub use print::print_script;
