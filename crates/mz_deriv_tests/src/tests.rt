@@ -1,41 +1,43 @@
-//! What the check answers to the scripts of the tables.
-use bodies::body;
-use declared::declared;
-use form::{Line, Table, Want};
-use mz_decl::declarations;
-use mz_deriv::{DerivFault, Script, check_fun};
-use mz_modes::modes;
-use mz_tree::{Fun, Memory, Place, Program};
+//! What the check answers to the scripts of the tables, each a whole derivation of a program that is read from its source.
+ghost use Rattle.mz_tree.specs.View.{plain_program};
+ghost use Rattle.mz_tree.specs.Scoped.{Scoped};
+
+use declared::A_CELL;
+use form::{Held, Line, Source, Step, Table, Want};
+use mz_deriv::{DerivFault, Derivation, Scripts, check_derivation};
+use mz_tree::{Memory, Place, Program};
+use programs::{is_declared, program_of, text};
 use scripts::{begun, read, whole};
 use sqlite_items::Items;
 use std::alloc::Global;
+use std::mem;
 use std::test::Fail;
 
 mod atoms;
-mod bodies;
 mod calls;
 mod declared;
 mod forks;
 mod form;
+mod locks;
 mod matches;
+mod programs;
 mod scripts;
 mod sharing;
 mod straight;
 
-// the right script with the change of row `at`
+// the lines of the right scripts with the change of row `at`
 fn changed(
     alloc: Global,
     table: &Table,
     at: usize,
     from: usize,
     to: usize,
-) -> Result<Script, Memory> {
-    let (_, _, right, rows) = *table;
-    let mut outer = Items::new(alloc);
-    let mut now = begun(alloc, 0);
+) -> Result<Items<Line>, Memory> {
+    let (_, right, rows) = *table;
+    let mut lines = Items::new(alloc);
     for k in 0..right.len() {
         if k < from {
-            read(alloc, &mut outer, &mut now, right[k])?;
+            lines.push(right[k])?;
         }
     }
     let mut inside = true;
@@ -43,37 +45,77 @@ fn changed(
         if k > at && inside {
             match rows[k] {
                 Line::Row(_, _, _, _) => inside = false,
-                line => read(alloc, &mut outer, &mut now, line)?,
+                line => lines.push(line)?,
             }
         }
     }
     for k in 0..right.len() {
         if k >= to {
-            read(alloc, &mut outer, &mut now, right[k])?;
+            lines.push(right[k])?;
         }
     }
-    Ok(whole(now))
+    Ok(lines)
 }
 
-// the check's answer in the program's declarations; none where these aren't lawful or the signature isn't declared
+// the scripts of the common functions
+const COMMON: &[Line] = &[
+    Line::Next,
+    Line::Do,
+    Line::Next,
+    Line::Do,
+    Line::Next,
+    Line::Do,
+    Line::Next,
+    Line::Do,
+    Line::Next,
+    Line::Do,
+    Line::Next,
+    Line::Do,
+    Line::See(Step::Fold(Held::Block(1, A_CELL, 0, None))),
+];
+
+// what stands behind the scripts of the table
+fn behind(source: Source, lines: &mut Items<Line>) -> Result<(), Memory> {
+    if let Source::Whole(_) = source {
+        return Ok(());
+    }
+    for k in 0..COMMON.len() {
+        lines.push(COMMON[k])?;
+    }
+    if let Source::Beside(_) = source {
+        lines.push(Line::Next)?;
+        lines.push(Line::Do)?;
+    }
+    Ok(())
+}
+
+// the scripts that stand one after the other in the lines
+fn scripts_of(alloc: Global, lines: &[Line]) -> Result<Scripts, Memory> {
+    let mut scripts = Items::new(alloc);
+    let mut outer = Items::new(alloc);
+    let mut now = begun(alloc, 0);
+    for k in 0..lines.len() {
+        match lines[k] {
+            Line::Next => scripts.push(whole(mem::replace(&mut now, begun(alloc, 0))))?,
+            line => read(alloc, &mut outer, &mut now, line)?,
+        }
+    }
+    scripts.push(whole(now))?;
+    Ok(scripts)
+}
+
+// the check's answer to a derivation of a program
 fn answer(
     alloc: Global,
     program: &Program,
-    fun: &Fun,
-    script: &Script,
-) -> Option<Result<(), DerivFault>> {
-    match declarations(alloc, program) {
-        Ok(Some(decls)) => match modes(alloc, &decls) {
-            Ok(modes) => {
-                if fun.sig < decls.sigs() {
-                    return Some(check_fun(alloc, &decls, &modes, fun, script));
-                }
-                None
-            }
-            Err(_) => None,
-        },
-        _ => None,
+    derivation: &Derivation,
+) -> Option<Result<(), DerivFault>>
+    requires { Scoped (plain_program program.now) }
+{
+    if is_declared(alloc, program) && derivation.scripts.len() == program.funs.len() {
+        return Some(check_derivation(alloc, program, derivation));
     }
+    None
 }
 
 // the answer that a row wants
@@ -93,25 +135,22 @@ fn wanted(want: Want) -> Result<(), DerivFault> {
     }
 }
 
-// the function of a table
-fn fun(alloc: Global, table: &Table) -> Result<Fun, Memory> {
-    Ok(Fun {
-        name: Items::new(alloc),
-        sig: table.0,
-        body: body(alloc, table.1)?,
-        spelling: Items::new(alloc),
-    })
-}
-
 // the first row of the table that isn't answered so
 fn first_wrong(alloc: Global, table: &Table) -> Result<Option<&'static str>, Memory> {
-    let program = declared(alloc)?;
-    let fun = fun(alloc, table)?;
-    let rows = table.3;
+    let (source, _, rows) = *table;
+    let text = text(alloc, source)?;
+    if text.len() > 1_000_000 {
+        return Ok(Some("a source is too long"));
+    }
+    let Some(program) = program_of(alloc, text.as_bytes()) else {
+        return Ok(Some("a source is no program"));
+    };
     for k in 0..rows.len() {
         if let Line::Row(name, from, to, want) = rows[k] {
-            let script = changed(alloc, table, k, from, to)?;
-            if answer(alloc, &program, &fun, &script) != Some(wanted(want)) {
+            let mut lines = changed(alloc, table, k, from, to)?;
+            behind(source, &mut lines)?;
+            let scripts = scripts_of(alloc, lines.as_slice())?;
+            if answer(alloc, &program, &Derivation { scripts }) != Some(wanted(want)) {
                 return Ok(Some(name));
             }
         }
@@ -130,8 +169,8 @@ fn table(number: usize) -> Table {
         3 => calls::frozen(),
         4 => calls::thread(),
         5 => sharing::adopted(),
-        6 => sharing::guarded(),
-        7 => sharing::spawned(),
+        6 => sharing::ring(),
+        7 => locks::locked(),
         8 => forks::test(),
         9 => forks::opened(),
         10 => forks::nested(),
@@ -152,7 +191,7 @@ fn first_of_all(alloc: Global) -> Result<Option<&'static str>, Memory> {
 }
 
 #[test]
-fn scripts_are_judged(rt: HostRuntime) -> Result<(), Fail> {
+fn derivations_are_judged(rt: HostRuntime) -> Result<(), Fail> {
     assert_eq!(rt; first_of_all(rt.alloc())?, None);
     Ok(())
 }

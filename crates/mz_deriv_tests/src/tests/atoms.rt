@@ -1,7 +1,7 @@
-//! Permissions, view steps and operations.
+//! Permissions and view steps.
 use crate::tests::declared::CELL;
-use crate::tests::form::{Does, Held, Step};
-use mz_tree::{Arith, Atom, Atoms, Memory, Names, Op, Ty};
+use crate::tests::form::{Held, Step};
+use mz_tree::{Atom, Atoms, Memory, Names, Ty};
 use mz_view::ViewStep;
 use sqlite_items::Items;
 use std::alloc::Global;
@@ -98,49 +98,5 @@ pub(crate) fn step(alloc: Global, step: Step) -> Result<ViewStep, Memory> {
             spot,
             to,
         },
-    })
-}
-
-pub(crate) fn op(alloc: Global, does: Does) -> Result<Op, Memory> {
-    Ok(match does {
-        Does::Int(number) => Op::Int(number),
-        Does::Unit => Op::Unit,
-        Does::Fun(fun) => Op::Fun(fun),
-        Does::Add(left, right) => Op::Arith {
-            op: Arith::Add,
-            left,
-            right,
-        },
-        Does::Empty(con) => Op::New {
-            con,
-            fields: Items::new(alloc),
-        },
-        Does::New(con, field) => Op::New {
-            con,
-            fields: one(alloc, field)?,
-        },
-        Does::Pair(con, first, second) => Op::New {
-            con,
-            fields: two(alloc, first, second)?,
-        },
-        Does::Read(block, con, field) => Op::Read { block, con, field },
-        Does::Write(block, con, field, from) => Op::Write {
-            block,
-            con,
-            field,
-            from,
-        },
-        Does::Retag(block, from, to) => Op::Retag { block, from, to },
-        Does::Call(callee, arg) => Op::Call {
-            callee,
-            args: one(alloc, arg)?,
-        },
-        Does::Give(block, adopter) => Op::Give { block, adopter },
-        Does::Take(block, adopter) => Op::Take { block, adopter },
-        Does::NewLock(cell) => Op::NewLock(guarded(alloc, cell)?),
-        Does::Acquire(lock) => Op::Acquire(lock),
-        Does::Release(lock) => Op::Release(lock),
-        Does::Spawn(callee, arg) => Op::Spawn { callee, arg },
-        Does::Print(name) => Op::Print(name),
     })
 }

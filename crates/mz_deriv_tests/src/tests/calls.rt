@@ -1,22 +1,13 @@
 //! Calls, threads, and what is frozen.
-use crate::tests::declared::{A_RAW, BUMP, CELL, CONS, EAT, LIST, LOOK, MAKE, NIL, START};
-use crate::tests::form::{Code, Does, Held, Line, Step, Table, Want};
+use crate::tests::declared::{A_RAW, BUMP, CELL, CONS, EAT, LIST, LOOK, MAKE, NIL};
+use crate::tests::form::{Held, Line, Source, Step, Table, Want};
 
-//  3  fun main : start = {
-//  4    let c = make(1);
-//  5    bump(c);
-//  6    eat(c)
-//  7  }
-const CALLS: &[Code] = &[
-    Code::Do(0, 4, 11, Does::Fun(MAKE)),
-    Code::Do(1, 4, 16, Does::Int(1)),
-    Code::Do(2, 4, 11, Does::Call(0, 1)),
-    Code::Do(3, 5, 3, Does::Fun(BUMP)),
-    Code::Do(4, 5, 3, Does::Call(3, 2)),
-    Code::Do(5, 6, 3, Does::Fun(EAT)),
-    Code::Do(6, 6, 3, Does::Call(5, 2)),
-    Code::End(6, 7, 1),
-];
+const CALLS: &str = "fun main : start = {
+  let c = make(1);
+  bump(c);
+  eat(c)
+}
+";
 
 const THE_CELL: Held = Held::Named(2, CELL);
 
@@ -54,27 +45,15 @@ const CALLS_ROWS: &[Line] = &[
     DROPPED,
 ];
 
-//  3  fun main : start = {
-//  4    let n = Nil { };
-//  5    let x = Raw { head = 7; tail = () };
-//  6    x.Raw.tail <- n;
-//  7    retag x from Raw to Cons;
-//  8    spawn look(x);
-//  9    spawn look(x)
-// 10  }
-const FROZEN: &[Code] = &[
-    Code::Do(0, 4, 11, Does::Empty(NIL)),
-    Code::Do(1, 5, 24, Does::Int(7)),
-    Code::Do(2, 5, 34, Does::Unit),
-    Code::Do(3, 5, 11, Does::Pair(A_RAW, 1, 2)),
-    Code::Do(4, 6, 14, Does::Write(3, A_RAW, 1, 0)),
-    Code::Do(5, 7, 3, Does::Retag(3, A_RAW, CONS)),
-    Code::Do(6, 8, 9, Does::Fun(LOOK)),
-    Code::Do(7, 8, 3, Does::Spawn(6, 3)),
-    Code::Do(8, 9, 9, Does::Fun(LOOK)),
-    Code::Do(9, 9, 3, Does::Spawn(8, 3)),
-    Code::End(9, 10, 1),
-];
+const FROZEN: &str = "fun main : start = {
+  let n = Nil { };
+  let x = Raw { head = 7; tail = () };
+  x.Raw.tail <- n;
+  retag x from Raw to Cons;
+  spawn look(x);
+  spawn look(x)
+}
+";
 
 const THE_NIL: Held = Held::Empty(0, NIL);
 
@@ -134,18 +113,11 @@ const FROZEN_ROWS: &[Line] = &[
     Line::See(Step::Drop(Held::Named(3, LIST))),
 ];
 
-//  3  fun main : start = {
-//  4    let c = make(1);
-//  5    spawn eat(c)
-//  6  }
-const THREAD: &[Code] = &[
-    Code::Do(0, 4, 11, Does::Fun(MAKE)),
-    Code::Do(1, 4, 16, Does::Int(1)),
-    Code::Do(2, 4, 11, Does::Call(0, 1)),
-    Code::Do(3, 5, 9, Does::Fun(EAT)),
-    Code::Do(4, 5, 3, Does::Spawn(3, 2)),
-    Code::End(4, 6, 1),
-];
+const THREAD: &str = "fun main : start = {
+  let c = make(1);
+  spawn eat(c)
+}
+";
 
 const THREAD_SCRIPT: &[Line] = &[
     Line::Do,
@@ -164,13 +136,13 @@ const THREAD_ROWS: &[Line] = &[
 ];
 
 pub(crate) fn calls() -> Table {
-    (START, CALLS, CALLS_SCRIPT, CALLS_ROWS)
+    (Source::Main(CALLS), CALLS_SCRIPT, CALLS_ROWS)
 }
 
 pub(crate) fn frozen() -> Table {
-    (START, FROZEN, FROZEN_SCRIPT, FROZEN_ROWS)
+    (Source::Main(FROZEN), FROZEN_SCRIPT, FROZEN_ROWS)
 }
 
 pub(crate) fn thread() -> Table {
-    (START, THREAD, THREAD_SCRIPT, THREAD_ROWS)
+    (Source::Main(THREAD), THREAD_SCRIPT, THREAD_ROWS)
 }

@@ -1,26 +1,16 @@
 //! Tests of numbers: what two branches begin with, and what they join in.
-use crate::tests::declared::{A_CELL, BUMP, CELL, MAKE, START, TEST};
-use crate::tests::form::{Code, Does, Held, Line, Step, Table, Want};
+use crate::tests::declared::{A_CELL, CELL};
+use crate::tests::form::{Held, Line, Source, Step, Table, Want};
 
 // a step that has no instance
 const WRONG: Line = Line::See(Step::Equal(0, 9));
 
 const RIGHT: Line = Line::See(Step::Unknown(0));
 
-//  3  fun main : start = {
-//  4    if 1 then { 2 } else { 3 }
-//  5  }
-const IF: &[Code] = &[
-    Code::Do(0, 4, 6, Does::Int(1)),
-    Code::Begin(0),
-    Code::Do(1, 4, 15, Does::Int(2)),
-    Code::End(1, 4, 17),
-    Code::Begin(0),
-    Code::Do(2, 4, 26, Does::Int(3)),
-    Code::End(2, 4, 28),
-    Code::If(3, 4, 3, 0),
-    Code::End(3, 5, 1),
-];
+const IF: &str = "sig start = () -> (r: unknown)
+fun main : start = {
+  if 1 then { 2 } else { 3 }
+}";
 
 const IF_SCRIPT: &[Line] = &[
     Line::Do,
@@ -42,52 +32,52 @@ const IF_ROWS: &[Line] = &[
         "nothing is said of the value at the end",
         10,
         11,
-        Want::Command(5, 1),
+        Want::Command(4, 1),
     ),
-    Line::Row("no case", 1, 10, Want::Command(4, 3)),
+    Line::Row("no case", 1, 10, Want::Command(3, 3)),
     Line::Do,
-    Line::Row("one case too few", 5, 8, Want::Command(4, 3)),
-    Line::Row("one case too many", 8, 8, Want::Command(4, 3)),
+    Line::Row("one case too few", 5, 8, Want::Command(3, 3)),
+    Line::Row("one case too many", 8, 8, Want::Command(3, 3)),
     Line::Case(0),
     Line::Do,
     Line::End,
-    Line::Row("a test uses a permission", 1, 2, Want::Command(4, 3)),
+    Line::Row("a test uses a permission", 1, 2, Want::Command(3, 3)),
     Line::Forks(Some(Held::Int(0))),
-    Line::Row("the test is no number", 1, 1, Want::Command(4, 3)),
+    Line::Row("the test is no number", 1, 1, Want::Command(3, 3)),
     Line::See(Step::Drop(Held::Int(0))),
     Line::Row(
         "a case has a number where none is",
         5,
         6,
-        Want::Command(4, 3),
+        Want::Command(3, 3),
     ),
     Line::Case(256),
     Line::Row(
         "the join keeps the first branch's name",
         8,
         9,
-        Want::Join(4, 3),
+        Want::Join(3, 3),
     ),
     Line::Join(Held::Int(1)),
     Line::Row(
         "the join keeps the second branch's name",
         8,
         9,
-        Want::Join(4, 3),
+        Want::Join(3, 3),
     ),
     Line::Join(Held::Equal(3, 2)),
     Line::Row(
         "the join keeps a name that nobody made",
         8,
         9,
-        Want::Join(4, 3),
+        Want::Join(3, 3),
     ),
     Line::Join(Held::Unknown(256)),
     Line::Row(
         "a wrong number comes before a wrong name",
         5,
         9,
-        Want::Command(4, 3),
+        Want::Command(3, 3),
     ),
     Line::Case(256),
     Line::Do,
@@ -97,14 +87,14 @@ const IF_ROWS: &[Line] = &[
         "a missing case comes before a wrong name",
         5,
         9,
-        Want::Command(4, 3),
+        Want::Command(3, 3),
     ),
     Line::Join(Held::Int(1)),
     Line::Row(
         "a wrong name comes before a wrong branch",
         3,
         9,
-        Want::Join(4, 3),
+        Want::Join(3, 3),
     ),
     WRONG,
     Line::Do,
@@ -113,13 +103,13 @@ const IF_ROWS: &[Line] = &[
     Line::Do,
     Line::End,
     Line::Join(Held::Int(1)),
-    Line::Row("the first branch lacks the join", 8, 9, Want::Join(4, 17)),
+    Line::Row("the first branch lacks the join", 8, 9, Want::Join(3, 17)),
     Line::Join(Held::Dynamic(3)),
     Line::Row(
         "the second branch lacks one permission of the join",
         6,
         9,
-        Want::Join(4, 28),
+        Want::Join(3, 28),
     ),
     Line::See(Step::Drop(Held::Int(0))),
     Line::Do,
@@ -130,7 +120,7 @@ const IF_ROWS: &[Line] = &[
         "the first branch's end comes before the second branch",
         4,
         6,
-        Want::Join(4, 17),
+        Want::Join(3, 17),
     ),
     Line::See(Step::Drop(Held::Int(1))),
     Line::End,
@@ -140,7 +130,7 @@ const IF_ROWS: &[Line] = &[
         "steps count anew in the first case",
         1,
         3,
-        Want::Step(4, 15, 2),
+        Want::Step(3, 15, 2),
     ),
     RIGHT,
     RIGHT,
@@ -152,7 +142,7 @@ const IF_ROWS: &[Line] = &[
         "steps count anew in the second case",
         3,
         7,
-        Want::Step(4, 28, 2),
+        Want::Step(3, 28, 2),
     ),
     RIGHT,
     Line::Do,
@@ -167,7 +157,7 @@ const IF_ROWS: &[Line] = &[
         "steps count anew behind the branches",
         1,
         11,
-        Want::Step(5, 1, 1),
+        Want::Step(4, 1, 1),
     ),
     RIGHT,
     Line::Forks(None),
@@ -181,25 +171,15 @@ const IF_ROWS: &[Line] = &[
     Line::Join(Held::Int(3)),
     Line::Joined,
     WRONG,
-    Line::Row("a branch has an item too many", 7, 7, Want::Command(4, 28)),
+    Line::Row("a branch has an item too many", 7, 7, Want::Command(3, 28)),
     Line::Do,
-    Line::Row("a branch has an item too few", 3, 4, Want::Command(4, 15)),
+    Line::Row("a branch has an item too few", 3, 4, Want::Command(3, 15)),
 ];
 
-//  3  fun open : bump = {
-//  4    if 1 then { () } else { () }
-//  5  }
-const OPENED: &[Code] = &[
-    Code::Do(1, 4, 6, Does::Int(1)),
-    Code::Begin(0),
-    Code::Do(2, 4, 15, Does::Unit),
-    Code::End(2, 4, 18),
-    Code::Begin(0),
-    Code::Do(3, 4, 27, Does::Unit),
-    Code::End(3, 4, 30),
-    Code::If(4, 4, 3, 1),
-    Code::End(4, 5, 1),
-];
+const OPENED: &str = "fun open : bump = {
+  if 1 then { () } else { () }
+}
+";
 
 const OPEN: Held = Held::Block(0, A_CELL, 256, None);
 
@@ -268,30 +248,14 @@ const OPENED_ROWS: &[Line] = &[
     ),
 ];
 
-//  3  fun pick : test = {
-//  4    let k = n + 1;
-//  5    if n then {
-//  6      let m = k + 1;
-//  7      if m then { k } else { m }
-//  8    } else { n }
-//  9  }
-const NESTED: &[Code] = &[
-    Code::Do(1, 4, 15, Does::Int(1)),
-    Code::Do(2, 4, 13, Does::Add(0, 1)),
-    Code::Begin(0),
-    Code::Do(3, 6, 17, Does::Int(1)),
-    Code::Do(4, 6, 15, Does::Add(2, 3)),
-    Code::Begin(0),
-    Code::End(2, 7, 19),
-    Code::Begin(0),
-    Code::End(4, 7, 30),
-    Code::If(5, 7, 5, 4),
-    Code::End(5, 8, 3),
-    Code::Begin(0),
-    Code::End(0, 8, 14),
-    Code::If(6, 5, 3, 0),
-    Code::End(6, 9, 1),
-];
+const NESTED: &str = "fun pick : test = {
+  let k = n + 1;
+  if n then {
+    let m = k + 1;
+    if m then { k } else { m }
+  } else { n }
+}
+";
 
 const NESTED_SCRIPT: &[Line] = &[
     Line::Do,
@@ -363,20 +327,10 @@ const NESTED_ROWS: &[Line] = &[
     Line::Join(Held::Int(6)),
 ];
 
-//  3  fun some : make = {
-//  4    if n then { Cell { v = 1 } } else { Cell { v = n } } giving result @ cell
-//  5  }
-const GIVEN: &[Code] = &[
-    Code::Begin(0),
-    Code::Do(1, 4, 26, Does::Int(1)),
-    Code::Do(2, 4, 15, Does::New(A_CELL, 1)),
-    Code::End(2, 4, 30),
-    Code::Begin(0),
-    Code::Do(3, 4, 39, Does::New(A_CELL, 0)),
-    Code::End(3, 4, 54),
-    Code::If(4, 4, 3, 0),
-    Code::End(4, 5, 1),
-];
+const GIVEN: &str = "fun some : make = {
+  if n then { Cell { v = 1 } } else { Cell { v = n } } giving result @ cell
+}
+";
 
 const FIRST: Line = Line::See(Step::Fold(Held::Block(2, A_CELL, 1, None)));
 
@@ -416,17 +370,17 @@ const GIVEN_ROWS: &[Line] = &[
 ];
 
 pub(crate) fn test() -> Table {
-    (START, IF, IF_SCRIPT, IF_ROWS)
+    (Source::Whole(IF), IF_SCRIPT, IF_ROWS)
 }
 
 pub(crate) fn opened() -> Table {
-    (BUMP, OPENED, OPENED_SCRIPT, OPENED_ROWS)
+    (Source::Beside(OPENED), OPENED_SCRIPT, OPENED_ROWS)
 }
 
 pub(crate) fn nested() -> Table {
-    (TEST, NESTED, NESTED_SCRIPT, NESTED_ROWS)
+    (Source::Beside(NESTED), NESTED_SCRIPT, NESTED_ROWS)
 }
 
 pub(crate) fn given() -> Table {
-    (MAKE, GIVEN, GIVEN_SCRIPT, GIVEN_ROWS)
+    (Source::Beside(GIVEN), GIVEN_SCRIPT, GIVEN_ROWS)
 }

@@ -1,5 +1,4 @@
-//! Functions and scripts as flat tables, which a test turns into values. Numbers and names are those of the program's types. Above
-//! each body in the tables stands its source, with the numbers of its lines.
+//! Sources, and scripts as flat tables, which a test turns into values. Numbers and names are those of the program that is read.
 
 /// A permission.
 #[derive(Clone, Copy)]
@@ -69,55 +68,23 @@ pub enum Line {
     End,
     Join(Held),
     Joined,
+    /// The script of the next function begins.
+    Next,
     /// A script with something changed: its name, two numbers, and what is answered. The lines that follow stand in the place of the
     /// right script's lines from the first number, counted from 0, up to the second, which stays.
     Row(&'static str, usize, usize, Want),
 }
 
-/// What a command without branches does.
+/// A source, which begins with a function whose script the table changes.
 #[derive(Clone, Copy)]
-pub enum Does {
-    Int(u64),
-    Unit,
-    Fun(u32),
-    Add(u32, u32),
-    /// A constructor without a field, with one, and with two.
-    Empty(u32),
-    New(u32, u32),
-    Pair(u32, u32, u32),
-    /// A block, its constructor, and a field.
-    Read(u32, u32, u32),
-    /// A block, its constructor, a field, and what is put there.
-    Write(u32, u32, u32, u32),
-    /// A block, and its constructors before and after.
-    Retag(u32, u32, u32),
-    /// A callee, and its argument.
-    Call(u32, u32),
-    /// A block, and its adopter.
-    Give(u32, u32),
-    Take(u32, u32),
-    /// The cell that the lock guards.
-    NewLock(u32),
-    Acquire(u32),
-    Release(u32),
-    /// A callee, and its argument.
-    Spawn(u32, u32),
-    Print(u32),
+pub enum Source {
+    /// The function is `main`. Before it stand the common declarations, which are two lines, behind it the common functions.
+    Main(&'static str),
+    /// So it is with this one, but `main` is one of the functions behind it.
+    Beside(&'static str),
+    /// A whole source. The scripts of the table are those of all its functions.
+    Whole(&'static str),
 }
 
-/// A line of a body. A command has the name that it binds, its line and its column. The bodies of its branches stand before it.
-#[derive(Clone, Copy)]
-pub enum Code {
-    Do(u32, u32, u32, Does),
-    /// A branch begins; of a match it is the case of this constructor.
-    Begin(u32),
-    /// A body ends: the name of its value, and the line and column of its closing brace.
-    End(u32, u32, u32),
-    /// A test of this name, which has the last two branches.
-    If(u32, u32, u32, u32),
-    /// A match of this name at a data type, which has all branches that stand before it.
-    Match(u32, u32, u32, u32, u32),
-}
-
-/// A function: its signature, its body, its right script, and rows.
-pub type Table = (u32, &'static [Code], &'static [Line], &'static [Line]);
+/// A source, its right script, and rows.
+pub type Table = (Source, &'static [Line], &'static [Line]);

@@ -1,21 +1,11 @@
 //! Matches: by a data type, with a case for each constructor, and by a constructor that is known, with its case alone.
-use crate::tests::declared::{CONS, LIST, LOOK, NIL, RAW, START};
-use crate::tests::form::{Code, Does, Held, Line, Step, Table, Want};
+use crate::tests::declared::{CONS, LIST, NIL, RAW};
+use crate::tests::form::{Held, Line, Source, Step, Table, Want};
 
-//  3  fun show : look = {
-//  4    match x { Nil -> { () } Cons -> { print x.Cons.head } }
-//  5  }
-const SHOWN: &[Code] = &[
-    Code::Begin(NIL),
-    Code::Do(1, 4, 22, Does::Unit),
-    Code::End(1, 4, 25),
-    Code::Begin(CONS),
-    Code::Do(2, 4, 50, Does::Read(0, CONS, 0)),
-    Code::Do(3, 4, 37, Does::Print(2)),
-    Code::End(3, 4, 55),
-    Code::Match(4, 4, 3, 0, LIST),
-    Code::End(4, 5, 1),
-];
+const SHOWN: &str = "fun show : look = {
+  match x { Nil -> { () } Cons -> { print x.Cons.head } }
+}
+";
 
 const THE_LIST: Held = Held::Named(0, LIST);
 
@@ -103,22 +93,11 @@ const SHOWN_ROWS: &[Line] = &[
     Line::Row("the join loses the list", 10, 11, Want::Command(5, 1)),
 ];
 
-//  3  fun main : start = {
-//  4    let n = Nil { };
-//  5    match n { Nil -> { print 1 } Cons -> { print n } }
-//  6  }
-const KNOWN: &[Code] = &[
-    Code::Do(0, 4, 11, Does::Empty(NIL)),
-    Code::Begin(NIL),
-    Code::Do(1, 5, 28, Does::Int(1)),
-    Code::Do(2, 5, 22, Does::Print(1)),
-    Code::End(2, 5, 30),
-    Code::Begin(CONS),
-    Code::Do(3, 5, 42, Does::Print(0)),
-    Code::End(3, 5, 50),
-    Code::Match(4, 5, 3, 0, LIST),
-    Code::End(4, 6, 1),
-];
+const KNOWN: &str = "fun main : start = {
+  let n = Nil { };
+  match n { Nil -> { print 1 } Cons -> { print n } }
+}
+";
 
 const THE_NIL: Held = Held::Empty(0, NIL);
 
@@ -185,9 +164,9 @@ const KNOWN_ROWS: &[Line] = &[
 ];
 
 pub(crate) fn shown() -> Table {
-    (LOOK, SHOWN, SHOWN_SCRIPT, SHOWN_ROWS)
+    (Source::Beside(SHOWN), SHOWN_SCRIPT, SHOWN_ROWS)
 }
 
 pub(crate) fn known() -> Table {
-    (START, KNOWN, KNOWN_SCRIPT, KNOWN_ROWS)
+    (Source::Main(KNOWN), KNOWN_SCRIPT, KNOWN_ROWS)
 }

@@ -85,7 +85,7 @@ pub(crate) fn read(
         Line::End => leave(outer, now)?,
         Line::Join(held) => now.join.push(atom(alloc, held)?)?,
         Line::Joined => join(alloc, now)?,
-        Line::Row(_, _, _, _) => {}
+        Line::Next | Line::Row(_, _, _, _) => {}
     }
     Ok(())
 }

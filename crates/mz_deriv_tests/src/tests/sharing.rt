@@ -1,29 +1,16 @@
-//! Adoption and locks.
-use crate::tests::declared::{
-    A_CELL, A_NODE, A_POOL, A_SHARED, CELL, NODE, POOL, SHARED, START, WORK,
-};
-use crate::tests::form::{Code, Does, Held, Line, Step, Table, Want};
+//! Adoption.
+use crate::tests::declared::{A_NODE, A_POOL, CELL, NODE, POOL};
+use crate::tests::form::{Held, Line, Source, Step, Table, Want};
 
-//  3  fun main : start = {
-//  4    let a = Node { v = 1; next = () };
-//  5    a.next <- a;
-//  6    let p = Pool { head = a };
-//  7    give a to p;
-//  8    take a from p;
-//  9    print a.v
-// 10  }
-const ADOPTED: &[Code] = &[
-    Code::Do(0, 4, 22, Does::Int(1)),
-    Code::Do(1, 4, 32, Does::Unit),
-    Code::Do(2, 4, 11, Does::Pair(A_NODE, 0, 1)),
-    Code::Do(3, 5, 10, Does::Write(2, A_NODE, 1, 2)),
-    Code::Do(4, 6, 11, Does::New(A_POOL, 2)),
-    Code::Do(5, 7, 3, Does::Give(2, 4)),
-    Code::Do(6, 8, 3, Does::Take(2, 4)),
-    Code::Do(7, 9, 11, Does::Read(2, A_NODE, 0)),
-    Code::Do(8, 9, 3, Does::Print(7)),
-    Code::End(8, 10, 1),
-];
+const ADOPTED: &str = "fun main : start = {
+  let a = Node { v = 1; next = () };
+  a.next <- a;
+  let p = Pool { head = a };
+  give a to p;
+  take a from p;
+  print a.Node.v
+}
+";
 
 const CYCLE: Held = Held::Pair(2, A_NODE, 0, 2);
 
@@ -96,173 +83,147 @@ const ADOPTED_ROWS: &[Line] = &[
         "what was given isn't known as it was",
         10,
         12,
-        Want::Command(9, 11),
+        Want::Command(9, 16),
     ),
     Line::Uses(CYCLE),
 ];
 
-//  3  fun add : work = {
-//  4    let l = s.l;
-//  5    acquire l;
-//  6    let c = s.c;
-//  7    print c.v;
-//  8    release l
-//  9  }
-const GUARDED: &[Code] = &[
-    Code::Do(1, 4, 13, Does::Read(0, A_SHARED, 1)),
-    Code::Do(2, 5, 3, Does::Acquire(1)),
-    Code::Do(3, 6, 13, Does::Read(0, A_SHARED, 0)),
-    Code::Do(4, 7, 11, Does::Read(3, A_CELL, 0)),
-    Code::Do(5, 7, 3, Does::Print(4)),
-    Code::Do(6, 8, 3, Does::Release(1)),
-    Code::End(6, 9, 1),
+// two nodes that point at each other
+const RING: &str = "data mutable node = Node { v: int; next: dynamic }
+data mutable pool adopts node = Pool { head: dynamic }
+sig start = () -> (r: unknown)
+fun main : start = {
+  let a = Node { v = 1; next = () };
+  let b = Node { v = 2; next = a };
+  a.next <- b;
+  let p = Pool { head = a };
+  give a to p;
+  give b to p;
+  let h = p.head;
+  take h from p;
+  h.v <- h.v + 10;
+  print h.v;
+  let n = h.next;
+  take n from p;
+  print n.v
+}";
+
+const THE_NODE: u32 = 0;
+
+const RING_NODE: u32 = 0;
+
+const RING_POOL: u32 = 1;
+
+const FIRST: Held = Held::Pair(2, RING_NODE, 0, 4);
+
+const SECOND: Held = Held::Pair(4, RING_NODE, 3, 2);
+
+const EMPTY: Held = Held::Block(6, RING_POOL, 2, None);
+
+const ADOPTER: Held = Held::Block(6, RING_POOL, 2, Some(THE_NODE));
+
+const TAKEN: Held = Held::Pair(9, RING_NODE, 256, 257);
+
+const RAISED: Held = Held::Pair(9, RING_NODE, 13, 257);
+
+const LAST: Held = Held::Pair(17, RING_NODE, 258, 259);
+
+const RING_SCRIPT: &[Line] = &[
+    Line::Do,
+    Line::Do,
+    Line::Do,
+    Line::Do,
+    Line::Do,
+    Line::Uses(Held::Pair(2, RING_NODE, 0, 1)),
+    Line::Do,
+    Line::See(Step::Dynamic(2)),
+    Line::See(Step::Dynamic(4)),
+    Line::See(Step::Fold(FIRST)),
+    Line::See(Step::Clause(EMPTY, THE_NODE)),
+    Line::Uses(ADOPTER),
+    Line::See(Step::Fold(SECOND)),
+    Line::Uses(ADOPTER),
+    Line::Uses(ADOPTER),
+    Line::See(Step::Equal(9, 2)),
+    Line::See(Step::Rename(Held::Dynamic(2), 9)),
+    Line::Uses(ADOPTER),
+    Line::See(Step::Unfold(9, THE_NODE, 256)),
+    Line::Uses(TAKEN),
+    Line::Do,
+    Line::See(Step::Equal(11, 256)),
+    Line::See(Step::Rename(Held::Int(256), 11)),
+    Line::Do,
+    Line::Uses(TAKEN),
+    Line::Uses(RAISED),
+    Line::See(Step::Equal(15, 13)),
+    Line::See(Step::Rename(Held::Int(13), 15)),
+    Line::Do,
+    Line::Uses(RAISED),
+    Line::See(Step::Equal(17, 257)),
+    Line::See(Step::Rename(Held::Dynamic(257), 17)),
+    Line::Uses(ADOPTER),
+    Line::See(Step::Unfold(17, THE_NODE, 258)),
+    Line::Uses(LAST),
+    Line::See(Step::Equal(19, 258)),
+    Line::See(Step::Rename(Held::Int(258), 19)),
+    Line::Do,
 ];
 
-const BOTH: Held = Held::Pair(0, A_SHARED, 256, 257);
-
-const IN_FIELD: Held = Held::Lock(257, 256);
-
-const LOCK: Held = Held::Lock(1, 256);
-
-const OVER_3: Held = Held::Lock(1, 3);
-
-const OPENED: Held = Held::Block(3, A_CELL, 258, None);
-
-const GUARDED_SCRIPT: &[Line] = &[
-    Line::See(Step::Unfold(0, SHARED, 256)),
-    Line::Uses(BOTH),
-    Line::See(Step::Equal(1, 257)),
-    Line::See(Step::Rename(IN_FIELD, 1)),
-    Line::Uses(LOCK),
-    Line::Uses(BOTH),
-    Line::See(Step::Equal(3, 256)),
-    Line::See(Step::Rename(Held::Named(256, CELL), 3)),
-    Line::See(Step::Unfold(3, CELL, 258)),
-    Line::Uses(OPENED),
-    Line::See(Step::Equal(4, 258)),
-    Line::See(Step::Rename(Held::Int(258), 4)),
-    Line::Do,
-    Line::See(Step::Fold(OPENED)),
-    Line::See(Step::Rename(Held::Named(3, CELL), 256)),
-    Line::Uses(LOCK),
-];
-
-const GUARDED_ROWS: &[Line] = &[
-    Line::Row("a locked cell is printed", 0, 0, Want::Passes),
+const RING_ROWS: &[Line] = &[
+    Line::Row("two nodes are given and taken", 0, 0, Want::Passes),
     Line::Row(
-        "before it is acquired the cell isn't held",
-        4,
-        4,
-        Want::Step(5, 3, 3),
+        "a field isn't said to be dynamic",
+        8,
+        9,
+        Want::Step(9, 3, 2),
     ),
-    Line::See(Step::Drop(Held::Named(256, CELL))),
+    Line::Row("the first node isn't folded", 9, 10, Want::Command(9, 3)),
     Line::Row(
-        "the lock is acquired by another name",
-        4,
-        5,
-        Want::Command(5, 3),
+        "the second node is given while the first is held",
+        11,
+        13,
+        Want::Command(9, 3),
     ),
-    Line::Uses(IN_FIELD),
-    Line::Row("an acquire names no permission", 4, 5, Want::Command(5, 3)),
-    Line::Do,
+    Line::See(Step::Fold(SECOND)),
+    Line::See(Step::Drop(Held::Named(2, THE_NODE))),
+    Line::Uses(ADOPTER),
+    Line::Row("the second node isn't folded", 12, 13, Want::Command(10, 3)),
     Line::Row(
-        "the cell isn't closed before the release",
+        "what was given can't be given again",
         13,
         14,
-        Want::Step(8, 3, 1),
+        Want::Command(10, 3),
     ),
+    Line::See(Step::Drop(Held::Named(4, THE_NODE))),
+    Line::Uses(ADOPTER),
     Line::Row(
-        "the cell isn't held by the name that the lock guards",
-        14,
-        15,
-        Want::Command(8, 3),
-    ),
-    Line::Row(
-        "the lock guards the cell by another name",
-        14,
+        "of what the field holds nothing is said",
         16,
-        Want::Passes,
+        17,
+        Want::Command(12, 3),
     ),
-    Line::See(Step::Spot(LOCK, 0, 3)),
-    Line::Uses(OVER_3),
+    Line::Row("a node is taken from no pool", 17, 18, Want::Command(12, 3)),
+    Line::Uses(Held::Dynamic(2)),
+    Line::Row("what was taken isn't opened", 18, 19, Want::Command(13, 12)),
     Line::Row(
-        "a lock over that name isn't held",
-        14,
-        16,
-        Want::Command(8, 3),
+        "the node is written as it was",
+        25,
+        26,
+        Want::Command(14, 11),
     ),
-    Line::Uses(OVER_3),
+    Line::Uses(TAKEN),
     Line::Row(
-        "the lock isn't held by the one who releases it",
-        15,
-        15,
-        Want::Command(8, 3),
-    ),
-    Line::See(Step::Drop(Held::Locked(1))),
-    Line::Row("the lock was released", 16, 16, Want::Step(9, 1, 1)),
-    Line::See(Step::Drop(Held::Locked(1))),
-];
-
-//  3  fun main : start = {
-//  4    let c = Cell { v = 0 };
-//  5    let l = newlock (c @ cell);
-//  6    let s = Shared { c = c; l = l };
-//  7    spawn work(s);
-//  8    spawn work(s)
-//  9  }
-const SPAWNED: &[Code] = &[
-    Code::Do(0, 4, 22, Does::Int(0)),
-    Code::Do(1, 4, 11, Does::New(A_CELL, 0)),
-    Code::Do(2, 5, 11, Does::NewLock(1)),
-    Code::Do(3, 6, 11, Does::Pair(A_SHARED, 1, 2)),
-    Code::Do(4, 7, 9, Does::Fun(WORK)),
-    Code::Do(5, 7, 3, Does::Spawn(4, 3)),
-    Code::Do(6, 8, 9, Does::Fun(WORK)),
-    Code::Do(7, 8, 3, Does::Spawn(6, 3)),
-    Code::End(7, 9, 1),
-];
-
-const SPAWNED_SCRIPT: &[Line] = &[
-    Line::Do,
-    Line::Do,
-    Line::See(Step::Fold(Held::Block(1, A_CELL, 0, None))),
-    Line::Do,
-    Line::Do,
-    Line::See(Step::Unknown(1)),
-    Line::See(Step::Fold(Held::Pair(3, A_SHARED, 1, 2))),
-    Line::Do,
-    Line::Uses(Held::Function(4, WORK)),
-    Line::Do,
-    Line::Uses(Held::Function(6, WORK)),
-];
-
-const SPAWNED_ROWS: &[Line] = &[
-    Line::Row("two threads share a locked cell", 0, 0, Want::Passes),
-    Line::Row(
-        "the cell isn't closed for the lock",
-        2,
-        3,
-        Want::Command(5, 11),
-    ),
-    Line::Row("the cell is the lock's", 4, 4, Want::Step(6, 11, 1)),
-    Line::See(Step::Drop(Held::Named(1, CELL))),
-    Line::Row("a field's content isn't held", 5, 6, Want::Step(7, 9, 1)),
-    Line::Row(
-        "the thread's argument isn't held",
-        6,
-        7,
-        Want::Command(7, 3),
+        "the second take has no ground",
+        30,
+        31,
+        Want::Step(16, 3, 1),
     ),
 ];
 
 pub(crate) fn adopted() -> Table {
-    (START, ADOPTED, ADOPTED_SCRIPT, ADOPTED_ROWS)
+    (Source::Main(ADOPTED), ADOPTED_SCRIPT, ADOPTED_ROWS)
 }
 
-pub(crate) fn guarded() -> Table {
-    (WORK, GUARDED, GUARDED_SCRIPT, GUARDED_ROWS)
-}
-
-pub(crate) fn spawned() -> Table {
-    (START, SPAWNED, SPAWNED_SCRIPT, SPAWNED_ROWS)
+pub(crate) fn ring() -> Table {
+    (Source::Whole(RING), RING_SCRIPT, RING_ROWS)
 }

@@ -1,23 +1,14 @@
 //! Blocks: a cell that is changed, and what a block is said to adopt.
-use crate::tests::declared::{A_CELL, CELL, NODE, START};
-use crate::tests::form::{Code, Does, Held, Line, Step, Table, Want};
+use crate::tests::declared::{A_CELL, CELL};
+use crate::tests::form::{Held, Line, Source, Step, Table, Want};
 
-//  3  fun main : start = {
-//  4    let c = Cell { v = 41 };
-//  5    c.v <- c.v + 1;
-//  6    print c.v
-//  7  }
-const ONE_CELL: &[Code] = &[
-    Code::Do(0, 4, 22, Does::Int(41)),
-    Code::Do(1, 4, 11, Does::New(A_CELL, 0)),
-    Code::Do(2, 5, 12, Does::Read(1, A_CELL, 0)),
-    Code::Do(3, 5, 16, Does::Int(1)),
-    Code::Do(4, 5, 14, Does::Add(2, 3)),
-    Code::Do(5, 5, 7, Does::Write(1, A_CELL, 0, 4)),
-    Code::Do(6, 6, 11, Does::Read(1, A_CELL, 0)),
-    Code::Do(7, 6, 3, Does::Print(6)),
-    Code::End(7, 7, 1),
-];
+const ONE_CELL: &str = "data mutable cell = Cell { v: int }
+sig start = () -> (r: unknown)
+fun main : start = {
+  let c = Cell { v = 41 };
+  c.v <- c.v + 1;
+  print c.v
+}";
 
 // the cell with this name in its field
 const WITH_0: Held = Held::Block(1, A_CELL, 0, None);
@@ -108,37 +99,41 @@ const ONE_CELL_ROWS: &[Line] = &[
     Line::See(Step::Unfold(1, CELL, 255)),
 ];
 
-//  3  fun main : start = {
-//  4    let c = Cell { v = 1 };
-//  5    ()
-//  6  }
-const CLAUSE: &[Code] = &[
-    Code::Do(0, 4, 22, Does::Int(1)),
-    Code::Do(1, 4, 11, Does::New(A_CELL, 0)),
-    Code::Do(2, 5, 3, Does::Unit),
-    Code::End(2, 6, 1),
-];
+// a block that is said to adopt what its data type doesn't
+const CLAUSE: &str = "data mutable cell = Cell { v: int }
+sig start = () -> (r: unknown)
+data mutable box = Box { n: int }
+fun main : start = {
+  let b = Box { n = 1 };
+  ()
+}";
 
-const CLAUSE_SCRIPT: &[Line] = &[Line::Do, Line::Do, Line::See(Step::Fold(WITH_0)), Line::Do];
+const A_BOX: u32 = 1;
+
+const THE_BOX: Held = Held::Block(1, A_BOX, 0, None);
+
+const OF_CELLS: Held = Held::Block(1, A_BOX, 0, Some(CELL));
+
+const CLAUSE_SCRIPT: &[Line] = &[Line::Do, Line::Do, Line::See(Step::Fold(THE_BOX)), Line::Do];
 
 const CLAUSE_ROWS: &[Line] = &[
     Line::Row("a block that adopts nothing is folded", 0, 0, Want::Passes),
     Line::Row("a block is said to adopt", 2, 3, Want::Passes),
-    Line::See(Step::Clause(WITH_0, NODE)),
+    Line::See(Step::Clause(THE_BOX, CELL)),
     Line::Row(
         "a block that adopts what its data type doesn't is folded",
         2,
         3,
-        Want::Step(5, 3, 2),
+        Want::Step(6, 3, 2),
     ),
-    Line::See(Step::Clause(WITH_0, NODE)),
-    Line::See(Step::Fold(Held::Block(1, A_CELL, 0, Some(NODE)))),
+    Line::See(Step::Clause(THE_BOX, CELL)),
+    Line::See(Step::Fold(OF_CELLS)),
 ];
 
 pub(crate) fn one_cell() -> Table {
-    (START, ONE_CELL, ONE_CELL_SCRIPT, ONE_CELL_ROWS)
+    (Source::Whole(ONE_CELL), ONE_CELL_SCRIPT, ONE_CELL_ROWS)
 }
 
 pub(crate) fn clause() -> Table {
-    (START, CLAUSE, CLAUSE_SCRIPT, CLAUSE_ROWS)
+    (Source::Whole(CLAUSE), CLAUSE_SCRIPT, CLAUSE_ROWS)
 }
