@@ -2,7 +2,7 @@
 use Rattle.std.proofs.Common.{◌≡◌, ◌⊎◌, inl, inr, ℕ, zero, suc, ◌+◌, ◌<◌, ◌≤◌, Bool, true, false, Result, Ok, Err, IfOk, List, [], ◌∷◌, ◌++◌, length, map, take, get_or, Some, slice_get, refl, sym, ap, ◌∙◌, subst, arith}
 use Rattle.mz_tree.specs.Plain.{Ty, Atom, Has_atom}
 use Rattle.mz_tree.specs.Saying.{Says}
-use Rattle.mz_tree.specs.View.{plain_ty, plain_atom, plain_atoms}
+use Rattle.mz_tree.specs.View.{plain_atom, plain_atoms}
 use Rattle.mz_tree.specs.declared.types.Atom.{Atom as CodeAtom}
 use Rattle.mz_tree.specs.declared.alike.Memory.{Memory}
 use Rattle.mz_perm.specs.Joining.{Joined}

@@ -1,7 +1,6 @@
 -- Types are alike just where they are one once each name has become its label.
-use Rattle.std.proofs.Common.{◌≡◌, ◌↔◌, ℕ, List, [], ◌∷◌, map, refl, sym, ap, ◌∙◌}
+use Rattle.std.proofs.Common.{◌≡◌, ◌↔◌, ℕ, List, [], ◌∷◌, map, refl, ap, ◌∙◌}
 use Rattle.mz_tree.specs.Plain.{Ty, Atom, Atoms, Int_type, Unknown_type, Dynamic_type, Locked_type, Named_type, Function_type, Block_type, Lock_type, Has_atom, Same_atom, No_atoms, More_atoms, map_ty, map_atom, map_atoms}
-use Rattle.mz_tree.specs.Saying.{Says}
 use Rattle.mz_perm.specs.Joining.{Joined}
 use Rattle.mz_index.specs.Classes.{AllJoined, AreAlike, AreAlikeAtoms, AreAlikeGuarded}
 

@@ -25,3 +25,4 @@ pub mod SoundLines
 pub mod WholeScripts
 pub mod Settling
 pub mod ReaderParts
+pub mod Printing

@@ -3,6 +3,7 @@ pub mod Words
 pub mod Lines
 pub mod Cutting
 pub mod Texts
+pub mod Parts
 pub mod Places
 pub mod Reading
 pub mod Fronts

@@ -1,5 +1,5 @@
 -- The script of a derivation as a text, and which lines are the first that no script has.
-use Rattle.std.specs.Prelude.{◌≡◌, ℕ, ◌+◌, List, [], map, length, Some, slice_get, flat_map}
+use Rattle.std.specs.Prelude.{◌≡◌, ℕ, ◌+◌, List, map, length, Some, slice_get, flat_map}
 use Rattle.mz_tree.specs.Programs.{Fun, Program}
 use Rattle.mz_tree.specs.Code.{commands_in}
 use Rattle.mz_grammar.specs.Brackets.{no_brackets}

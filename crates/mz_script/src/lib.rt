@@ -22,8 +22,10 @@
 
 mod fault;
 mod laws;
+mod print;
 mod read;
 
 pub use fault::ScriptFault;
 pub use laws::{at_most_one_derivation, at_most_one_text, spelled_has_text};
+pub use print::print_script;
 pub use read::read_script;

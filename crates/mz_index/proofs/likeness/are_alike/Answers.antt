@@ -1,4 +1,4 @@
-use Rattle.std.proofs.Common.{◌≡◌, IsTrue, sym, ap, ◌∙◌}
+use Rattle.std.proofs.Common.{IsTrue, sym, ap, ◌∙◌}
 use Rattle.mz_tree.specs.View.{plain_ty}
 use Rattle.mz_tree.proofs.Views.{same_plain_ty}
 use Rattle.mz_index.specs.Labels.{label}

@@ -1,4 +1,4 @@
-use Rattle.std.proofs.Common.{subst, sym, ap}
+use Rattle.std.proofs.Common.{subst, sym}
 use Rattle.mz_tree.specs.Saying.{Says}
 use Rattle.mz_tree.specs.View.{plain_atom, plain_atoms}
 use Rattle.mz_index.specs.Finding.{InClass}

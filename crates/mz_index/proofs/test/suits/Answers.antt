@@ -1,5 +1,4 @@
 use Rattle.std.proofs.Common.{sym, ap, ◌∙◌}
-use Rattle.mz_tree.specs.Plain.{Has_atom}
 use Rattle.mz_tree.specs.View.{plain_ty, plain_atom}
 use Rattle.mz_index.specs.Tests.{Passes}
 use Rattle.mz_index.specs.Questions.{plain_test}

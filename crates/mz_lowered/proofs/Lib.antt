@@ -1,0 +1,4 @@
+pub mod Lowerable
+pub mod InRange
+pub mod SafeCode
+pub mod Shown

@@ -1,0 +1,12 @@
+pub mod Standing
+pub mod Steps
+pub mod Answers
+pub mod Raw
+pub mod Faults
+pub mod Views
+pub mod FirstWords
+pub mod Plain
+pub mod Replays
+pub mod Interleavings
+pub mod Turns
+pub mod Laws
