@@ -48,6 +48,7 @@ ends_none front h = not_true (bytes_eq front head_line) (λ same. clash (subst N
     not_true : (t : Bool) → (t ≡ true → ⊥) → t ≡ false
     not_true true never = absurd (never refl)
     not_true false never = refl
+
     clash : NoEnd head_line → ⊥
     clash (a1, (a2, (a3, (a4, (a5, (a6, (a7, (a8, (a9, (a10, (a11, (a12, (a13, (last, done)))))))))))))) = let wrong : true ≡ false = last in absurd (cc)
 

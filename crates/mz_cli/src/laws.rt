@@ -1,7 +1,10 @@
 //! What holds of all refusals of a source or an input, and of all runs of a program of the first form.
 ghost use Rattle.mz_cli.specs.OneOutcome.{AtMostOneOutcome};
 ghost use Rattle.mz_cli.specs.OneRefusal.{
-    AtMostOneRefusal, AtMostOneVerifyRefusal, NothingRunsAndIsRefused, NothingVerifiedIsRefused,
+  AtMostOneRefusal,
+  AtMostOneVerifyRefusal,
+  NothingRunsAndIsRefused,
+  NothingVerifiedIsRefused,
 };
 
 /// All runs of the program's `main` come to the same, whatever names their new blocks take: they end with the same prints,

@@ -30,8 +30,8 @@ mod verify;
 mod words;
 
 pub use laws::{
-    at_most_one_outcome, at_most_one_refusal, at_most_one_verify_refusal, nothing_runs_and_is_refused,
-    nothing_verified_is_refused,
+    at_most_one_outcome, at_most_one_refusal, at_most_one_verify_refusal,
+    nothing_runs_and_is_refused, nothing_verified_is_refused,
 };
 pub use status::Status;
 pub use top::{mezzo, mezzo_plain};

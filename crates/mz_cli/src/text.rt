@@ -57,7 +57,10 @@ fn at_line(alloc: Global, number: u32) -> Result<String, Memory>
 fn at_step(alloc: Global, place: Place, step: u64) -> Result<String, Memory>
     ensures { IfOk result (λ text. string_bytes text ≡ line (at_place place (bad_step step))) }
 {
-    let text = format!(in alloc; "refused: {}:{}: bad step {}\n", place.line, place.col, step)?;
+    let text = format!(in alloc;
+        "refused: {}:{}: bad step {}\n",
+        place.line, place.col, step
+    )?;
     Ok(text)
 }
 

@@ -2,6 +2,7 @@
 
 mod refusals;
 mod table;
+mod verify;
 
 use mz_base::{Failed, MemorySink, MemorySource, OpenGate, Sink, Source};
 use mz_cli::{Status, mezzo, mezzo_plain};

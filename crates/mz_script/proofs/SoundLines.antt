@@ -193,8 +193,8 @@ module _ (p : Program) where
       by_piece No_line h = tt
       by_piece Head_line h = tt
       by_piece End_line h = tt
-      by_piece (Fun_line name) h = elim h [ | inl w ↦ w.1 | inr none ↦ cc ]
-      by_piece (Step_line s) h = elim h [ | inl w ↦ w.1 | inr none ↦ cc ]
-      by_piece (Do_line uses) h = elim h [ | inl w ↦ w.1 | inr none ↦ cc ]
-      by_piece (Case_line n) h = elim h [ | inl w ↦ w.1 | inr none ↦ cc ]
-      by_piece (Join_line atoms) h = elim h [ | inl w ↦ w.1 | inr none ↦ cc ]
+      by_piece (Fun_line name) h = elim h [ inl w ↦ w.1 | inr none ↦ cc ]
+      by_piece (Step_line s) h = elim h [ inl w ↦ w.1 | inr none ↦ cc ]
+      by_piece (Do_line uses) h = elim h [ inl w ↦ w.1 | inr none ↦ cc ]
+      by_piece (Case_line n) h = elim h [ inl w ↦ w.1 | inr none ↦ cc ]
+      by_piece (Join_line atoms) h = elim h [ inl w ↦ w.1 | inr none ↦ cc ]

@@ -42,9 +42,9 @@ fields_sound before (f ∷ fields) names bytes rest e =
     let one = name_sound.is c.first.1 n.first.1 n.first.0 n.is in
     let more = fields_sound (codes "; ") fields ns.first.0 n.first.1 ns.first.1 ns.is in
     let text : bytes ≡ fields_text before (f ∷ fields) (n.first.0 ∷ ns.first.0) ++ ns.first.1 =
-        text_was before bytes a.first.1 a.first.0 a.is
-        ∙ ap (λ l. before ++ l) (text_was f.name a.first.1 b.first.1 b.first.0 b.is ∙ ap (λ l. f.name ++ l) (text_was (codes " = ") b.first.1 c.first.1 c.first.0 c.is ∙ ap (λ l. codes " = " ++ l) (one.0 ∙ ap (λ l. name_text n.first.0 ++ l) more.split)))
-        ∙ sym (simp append_assoc) in
+    text_was before bytes a.first.1 a.first.0 a.is
+    ∙ ap (λ l. before ++ l) (text_was f.name a.first.1 b.first.1 b.first.0 b.is ∙ ap (λ l. f.name ++ l) (text_was (codes " = ") b.first.1 c.first.1 c.first.0 c.is ∙ ap (λ l. codes " = " ++ l) (one.0 ∙ ap (λ l. name_text n.first.0 ++ l) more.split)))
+    ∙ sym (simp append_assoc) in
     subst (λ ns. FieldsRead before (f ∷ fields) ns bytes rest) (ap (λ v. v.0) pair)
     (record { split = text ∙ ap (λ l. fields_text before (f ∷ fields) (n.first.0 ∷ ns.first.0) ++ l) (ap (λ v. v.1) pair); count = (let k = more.count in omega arith); known = one_known n.first.0 ns.first.0 one.1 more.known })
 
@@ -146,9 +146,9 @@ module _ (p : Program) where
       let adopted = adopts_was a.first.0 c.first.1 a.first.1 a.is in
       let count : length con.con.fields ≡ length ns.first.0 = sym (ap (λ o. length (con_fields o)) con.there) ∙ names.count in
       let text : word ++ bytes ≡ block_text p k ns.first.0 a.first.0 ++ a.first.1 =
-          ap (λ l. l ++ bytes) con.named
-          ∙ ap (λ l. con_name (slice_get p.cons k) ++ l) (opened.0 ∙ ap (λ l. codes " {" ++ l) (names.split ∙ ap (λ l. fields_text (codes " ") fields ns.first.0 ++ l) (text_was (codes " }") ns.first.1 c.first.1 c.first.0 c.is ∙ ap (λ l. codes " }" ++ l) adopted.0)))
-          ∙ sym (simp append_assoc) in
+      ap (λ l. l ++ bytes) con.named
+      ∙ ap (λ l. con_name (slice_get p.cons k) ++ l) (opened.0 ∙ ap (λ l. codes " {" ++ l) (names.split ∙ ap (λ l. fields_text (codes " ") fields ns.first.0 ++ l) (text_was (codes " }") ns.first.1 c.first.1 c.first.0 c.is ∙ ap (λ l. codes " }" ++ l) adopted.0)))
+      ∙ sym (simp append_assoc) in
       subst (TypeIs d (word ++ bytes) rest) (ap (λ v. v.0) pair) (record {
         split = text ∙ ap (λ l. block_text p k ns.first.0 a.first.0 ++ l) (ap (λ v. v.1) pair);
         fits = (record { found = con.con; declared = con.there; fields = count }, names.known, adopted.1);

@@ -83,13 +83,19 @@ fn lines_of_an_if(rt: HostRuntime) -> Result<(), Fail> {
 
 #[test]
 fn lines_of_a_match(rt: HostRuntime) -> Result<(), Fail> {
-    assert_eq!(rt; wrong_row(rt.alloc(), MATCH, MATCH_SCRIPT, &MATCH_ROWS)?, None);
+    assert_eq!(rt;
+        wrong_row(rt.alloc(), MATCH, MATCH_SCRIPT, &MATCH_ROWS)?,
+        None
+    );
     Ok(())
 }
 
 #[test]
 fn lines_of_steps(rt: HostRuntime) -> Result<(), Fail> {
-    assert_eq!(rt; wrong_row(rt.alloc(), STEPS, STEPS_SCRIPT, &STEPS_ROWS)?, None);
+    assert_eq!(rt;
+        wrong_row(rt.alloc(), STEPS, STEPS_SCRIPT, &STEPS_ROWS)?,
+        None
+    );
     Ok(())
 }
 

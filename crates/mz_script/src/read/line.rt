@@ -50,11 +50,7 @@ fn fun_line(alloc: Global, bytes: &[u8]) -> Result<(Line, &[u8]), Stop>
     Ok((Line::Fun(name), rest))
 }
 
-fn do_line<'a>(
-    alloc: Global,
-    program: &Program,
-    bytes: &'a [u8],
-) -> Result<(Line, &'a [u8]), Stop>
+fn do_line<'a>(alloc: Global, program: &Program, bytes: &'a [u8]) -> Result<(Line, &'a [u8]), Stop>
     requires scoped { Scoped (plain_program program.now) }
     ensures { Gives (λ x. (plain_line x.0, x.1.now)) result (image (λ a. Do_line (Some a)) (atom_at (plain_program program.now)) bytes.now) }
 {
@@ -136,11 +132,7 @@ fn command_line<'a>(
 }
 
 #[tactic(auto, unfolding(crate::specs::ReadLines::any_line_at, crate::specs::Fronts::choose_text))]
-fn any_line<'a>(
-    alloc: Global,
-    program: &Program,
-    bytes: &'a [u8],
-) -> Result<(Line, &'a [u8]), Stop>
+fn any_line<'a>(alloc: Global, program: &Program, bytes: &'a [u8]) -> Result<(Line, &'a [u8]), Stop>
     requires scoped { Scoped (plain_program program.now) }
     ensures { Gives (λ x. (plain_line x.0, x.1.now)) result (any_line_at (plain_program program.now) bytes.now) }
 {

@@ -95,11 +95,7 @@ fn funs<'a>(
 }
 
 // The scripts of all functions, and what is left of the bytes.
-fn front<'a>(
-    alloc: Global,
-    program: &Program,
-    bytes: &'a [u8],
-) -> Result<(Scripts, &'a [u8]), Stop>
+fn front<'a>(alloc: Global, program: &Program, bytes: &'a [u8]) -> Result<(Scripts, &'a [u8]), Stop>
     requires scoped { Scoped (plain_program program.now) }
     ensures { Gives (λ x. (map plain_script x.0, lines x.1.now)) result (script_by (piece_of (plain_program program.now)) (plain_program program.now).funs (lines bytes.now)) }
 {

@@ -89,11 +89,7 @@ fn clause<'a>(
 }
 
 #[tactic(auto, unfolding(crate::specs::ReadLines::meet_at))]
-fn meet<'a>(
-    alloc: Global,
-    program: &Program,
-    bytes: &'a [u8],
-) -> Result<(ViewStep, &'a [u8]), Stop>
+fn meet<'a>(alloc: Global, program: &Program, bytes: &'a [u8]) -> Result<(ViewStep, &'a [u8]), Stop>
     requires scoped { Scoped (plain_program program.now) }
     ensures { Gives (λ x. (plain_step x.0, x.1.now)) result (meet_at (plain_program program.now) bytes.now) }
 {

@@ -25,16 +25,16 @@ returns-then-eq-clause-script c =
 pub loop-at-preserved : goal.loop-at-preserved
 loop-at-preserved c = elim c.if-bytes-at-eq10.branch [
   | then-bytes-at-eq10+else-eq w ↦ (
-    let never : take (c.loop-at.at + 1 - c.loop-at.start) (drop c.loop-at.start c.args.bytes.now) ≡ head_line → ⊥ = λ same. search rules in
-    let next : suc c.loop-at.at ≡ c.loop-at.at + 1 = omega arith in
-    moved c.args.bytes.now (suc c.loop-at.at) (suc c.loop-at.at) c.if-bytes-at-eq10.start (c.loop-at.at + 1) (next ∙ sym w.start-is) next
-    (scanned_line c.args.bytes.now c.loop-at.start c.loop-at.at 10 (sym w.if-bytes-at-eq10.true) c.loop-at-test.true refl never c.loop-at.invariant)
-  )
+      let never : take (c.loop-at.at + 1 - c.loop-at.start) (drop c.loop-at.start c.args.bytes.now) ≡ head_line → ⊥ = λ same. search rules in
+      let next : suc c.loop-at.at ≡ c.loop-at.at + 1 = omega arith in
+      moved c.args.bytes.now (suc c.loop-at.at) (suc c.loop-at.at) c.if-bytes-at-eq10.start (c.loop-at.at + 1) (next ∙ sym w.start-is) next
+      (scanned_line c.args.bytes.now c.loop-at.start c.loop-at.at 10 (sym w.if-bytes-at-eq10.true) c.loop-at-test.true refl never c.loop-at.invariant)
+      )
   | else-bytes-at-eq10 w ↦ (
-    let next : suc c.loop-at.at ≡ c.loop-at.at + 1 = omega arith in
-    moved c.args.bytes.now c.loop-at.start (suc c.loop-at.at) c.if-bytes-at-eq10.start (c.loop-at.at + 1) (sym w.start-is) next
-    (scanned_more c.args.bytes.now c.loop-at.start c.loop-at.at (slice_index_or c.args.bytes.now c.loop-at.at 0) refl c.loop-at-test.true (not_ten (slice_index_or c.args.bytes.now c.loop-at.at 0) w.if-bytes-at-eq10.false) c.loop-at.invariant)
-  )
+      let next : suc c.loop-at.at ≡ c.loop-at.at + 1 = omega arith in
+      moved c.args.bytes.now c.loop-at.start (suc c.loop-at.at) c.if-bytes-at-eq10.start (c.loop-at.at + 1) (sym w.start-is) next
+      (scanned_more c.args.bytes.now c.loop-at.start c.loop-at.at (slice_index_or c.args.bytes.now c.loop-at.at 0) refl c.loop-at-test.true (not_ten (slice_index_or c.args.bytes.now c.loop-at.at 0) w.if-bytes-at-eq10.false) c.loop-at.invariant)
+      )
 ]
 
 pub returns-clause-source : goal.returns-clause-source

@@ -120,16 +120,16 @@ some_cases-loop-i-preserved t c =
     let before = ap (λ l. with_cases (map plain_script_case c.loop-i.scripts) (cases_by piece c.args.numbered walked l (lines c.loop-i.rest.now))) (sym next) ∙ c.loop-i.invariant in
     elim c.if-has_script.branch [
       | some_cases-then-has_script+in_ok-script+in_ok-push w ↦ (
-        let read = case_read piece c.args.numbered walked _ _ left (map plain_script_case c.loop-i.scripts) (plain_script_case w.in_ok-script.script) (lines c.loop-i.rest.now) (lines w.in_ok-script.more.now) (sym c.has_script.ensures ∙ w.if-has_script.true) w.in_ok-script.ensures in
-        ap (λ s. with_cases (map plain_script_case s) (cases_by piece c.args.numbered walked left (lines c.if-has_script.rest.now))) w.scripts-is
-        ∙ ap (λ (r : Bor (List ℕ)). with_cases (map plain_script_case w.push.new.self) (cases_by piece c.args.numbered walked left (lines r.now))) w.rest-is
-        ∙ ap (λ l. with_cases l (cases_by piece c.args.numbered walked left (lines w.in_ok-script.more.now))) (ap (map plain_script_case) w.in_ok-push.ensures.ok ∙ map_append plain_script_case c.loop-i.scripts _)
-        ∙ sym read ∙ before
-      )
+          let read = case_read piece c.args.numbered walked _ _ left (map plain_script_case c.loop-i.scripts) (plain_script_case w.in_ok-script.script) (lines c.loop-i.rest.now) (lines w.in_ok-script.more.now) (sym c.has_script.ensures ∙ w.if-has_script.true) w.in_ok-script.ensures in
+          ap (λ s. with_cases (map plain_script_case s) (cases_by piece c.args.numbered walked left (lines c.if-has_script.rest.now))) w.scripts-is
+          ∙ ap (λ (r : Bor (List ℕ)). with_cases (map plain_script_case w.push.new.self) (cases_by piece c.args.numbered walked left (lines r.now))) w.rest-is
+          ∙ ap (λ l. with_cases l (cases_by piece c.args.numbered walked left (lines w.in_ok-script.more.now))) (ap (map plain_script_case) w.in_ok-push.ensures.ok ∙ map_append plain_script_case c.loop-i.scripts _)
+          ∙ sym read ∙ before
+          )
       | some_cases-else-has_script w ↦ (
-        let passed = case_passed piece c.args.numbered walked _ _ left (lines c.loop-i.rest.now) (sym c.has_script.ensures ∙ w.if-has_script.false) in
-        ap (λ s. with_cases (map plain_script_case s) (cases_by piece c.args.numbered walked left (lines c.if-has_script.rest.now))) w.scripts-is
-        ∙ ap (λ (r : Bor (List ℕ)). with_cases (map plain_script_case c.loop-i.scripts) (cases_by piece c.args.numbered walked left (lines r.now))) w.rest-is
-        ∙ ap (with_cases (map plain_script_case c.loop-i.scripts)) (sym passed) ∙ before
-      )
+          let passed = case_passed piece c.args.numbered walked _ _ left (lines c.loop-i.rest.now) (sym c.has_script.ensures ∙ w.if-has_script.false) in
+          ap (λ s. with_cases (map plain_script_case s) (cases_by piece c.args.numbered walked left (lines c.if-has_script.rest.now))) w.scripts-is
+          ∙ ap (λ (r : Bor (List ℕ)). with_cases (map plain_script_case c.loop-i.scripts) (cases_by piece c.args.numbered walked left (lines r.now))) w.rest-is
+          ∙ ap (with_cases (map plain_script_case c.loop-i.scripts)) (sym passed) ∙ before
+          )
     ]
