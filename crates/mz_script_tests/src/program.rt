@@ -16,14 +16,14 @@ pub(crate) fn program(alloc: Global, source: &[u8]) -> Option<Program>
     if source.len() > 1_000_000 {
         return None;
     }
-    match tokens(alloc, source) {
+    let Ok(found) = tokens(alloc, source) else {
+        return None;
+    };
+    let Ok(surface) = parse(alloc, &found) else {
+        return None;
+    };
+    match resolve(alloc, &surface) {
+        Ok(program) => Some(program),
         Err(_) => None,
-        Ok(found) => match parse(alloc, &found) {
-            Err(_) => None,
-            Ok(surface) => match resolve(alloc, &surface) {
-                Err(_) => None,
-                Ok(program) => Some(program),
-            },
-        },
     }
 }

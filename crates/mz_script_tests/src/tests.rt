@@ -40,7 +40,7 @@ fn changed(alloc: Global, text: &[u8], line: usize, other: &[u8]) -> Result<Vec<
             if at == line {
                 out.extend_from_slice(other)?;
             }
-            at += 1;
+            at = at.wrapping_add(1);
         }
     }
     Ok(out)
