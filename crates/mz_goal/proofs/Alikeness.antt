@@ -19,7 +19,7 @@ use Rattle.mz_goal.proofs.Frames.{takes_end, perm_beside, leads_none, leads_one,
 use Rattle.mz_goal.proofs.Paths.{path_leads, named_leads}
 
 -- as many names
-joined_long : (R : List (Atom ℕ)) (ys zs : List ℕ) → AllJoined R ys zs → length zs ≡ length ys
+pub joined_long : (R : List (Atom ℕ)) (ys zs : List ℕ) → AllJoined R ys zs → length zs ≡ length ys
 joined_long R [] [] j = refl
 joined_long R [] (z ∷ zs) j = absurd j
 joined_long R (y ∷ ys) [] j = absurd j
@@ -205,7 +205,7 @@ locks_lead D R Q x p q done (y ∷ ys) (z ∷ more) before after rest j held =
     (_, leads_then D (Q ++ Has_atom x (Lock_type p) ∷ []) (Q ++ Has_atom x (Lock_type r.0) ∷ []) (Q ++ Has_atom x (Lock_type q) ∷ []) one.0 two.0 one.1 two.1)
 
 -- a type is its names and all but the names
-type_unique : (t u : Ty ℕ) → names_in_type t ≡ names_in_type u → nameless_type t ≡ nameless_type u → t ≡ u
+pub type_unique : (t u : Ty ℕ) → names_in_type t ≡ names_in_type u → nameless_type t ≡ nameless_type u → t ≡ u
 type_unique t u names rest = let same : More_atoms (Has_atom 0 t) No_atoms ≡ More_atoms (Has_atom 0 u) No_atoms = named_unique 0 (More_atoms (Has_atom 0 t) No_atoms) (More_atoms (Has_atom 0 u) No_atoms) (ap (λ l. (0 ∷ l) ++ []) names) (ap (λ v. More_atoms (Has_atom tt v) No_atoms) rest) in cc
 
 no_names : (R : List (Atom ℕ)) (zs : List ℕ) → AllJoined R [] zs → [] ≡ zs
@@ -219,7 +219,7 @@ bare_leads D R Q x u t none a =
     let P = Q ++ Has_atom x u ∷ [] in
     ([], subst (λ v. Leads D P [] (Q ++ Has_atom x v ∷ [])) same (leads_none D P P (perm_refl P)))
 
-lock_of : (p : Atoms ℕ) (t : Ty ℕ) → nameless_type t ≡ Lock_type (nameless p) → (q : Atoms ℕ) × (t ≡ Lock_type q)
+pub lock_of : (p : Atoms ℕ) (t : Ty ℕ) → nameless_type t ≡ Lock_type (nameless p) → (q : Atoms ℕ) × (t ≡ Lock_type q)
 lock_of p Int_type e = absurd (cc)
 lock_of p Unknown_type e = absurd (cc)
 lock_of p Dynamic_type e = absurd (cc)
@@ -229,7 +229,7 @@ lock_of p (Function_type s) e = absurd (cc)
 lock_of p (Block_type con ys c) e = absurd (cc)
 lock_of p (Lock_type q) e = (q, refl)
 
-lock_rest : (p q : Atoms (Unit {0})) → Lock_type p ≡ Lock_type q → p ≡ q
+pub lock_rest : (p q : Atoms (Unit {0})) → Lock_type p ≡ Lock_type q → p ≡ q
 lock_rest p q e = cc
 
 -- from a type to one that is alike, where the equations of their names stand

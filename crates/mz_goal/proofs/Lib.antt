@@ -6,3 +6,14 @@ pub mod Meeting
 pub mod Unique
 pub mod Fewer
 pub mod Viewing
+pub mod Marking
+pub mod Reached
+pub mod Reaching
+pub mod Offering
+pub mod Lending
+pub mod Listed
+pub mod Putting
+pub mod Serving
+pub mod Wholes
+pub mod Fields
+pub mod Commands

@@ -1,8 +1,8 @@
 -- How a goal is met: one constructor for each of the guided rules, in the order in which they are tried.
 --
--- A goal works on a list of entries, each a permission in its place with its mark. A block that was folded is used, and is
--- folded no second time by the goal that a command asks for or by a goal of a field that comes of it. What a command has
--- set aside stays in its place and isn't seen. What is added goes to the end. A rule is used where no rule before it
+-- A goal works on a list of entries, each a permission in its place with its mark. An immutable block that a fold opens
+-- is used from then on: no goal that comes of the same goal of a command opens it again. What a command has set aside
+-- stays in its place and isn't seen. What is added goes to the end. A rule is used where no rule before it
 -- applies; a goal of a data type takes the first block that may be folded, and where the fields of that one aren't met
 -- the goal isn't.
 use Rattle.std.specs.Prelude.{◌≡◌, ◌⊎◌, ℕ, List, [], ◌∷◌, ◌++◌, map, length, Option, Some, None, slice_get, slice_set}

@@ -1,4 +1,5 @@
--- What holds of every goal: it is met in one way at most, and where it is met view steps lead there.
+-- What holds of each goal of a command, a join or an end: it leads from a state to one state at most, and where it is met
+-- view steps lead there.
 use Rattle.std.specs.Prelude.{◌≡◌, ℕ, List, [], ◌∷◌, ◌++◌}
 use Rattle.mz_tree.specs.Plain.{Atom}
 use Rattle.mz_decl.specs.Declarations.{Decls}

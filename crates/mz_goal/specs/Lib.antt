@@ -1,5 +1,12 @@
 pub mod Goals
 pub mod Needs
+pub mod Marked
+pub mod Added
+pub mod Reaching
+pub mod Answers
+pub mod Changing
+pub mod Offering
+pub mod Folding
 pub mod Leads
 pub mod Free
 pub mod Laws

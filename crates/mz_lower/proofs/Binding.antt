@@ -16,7 +16,7 @@ use Rattle.mz_lower.specs.Layout.{size_op}
 use Rattle.mz_lower.specs.Addresses.{StandsAt}
 use Rattle.mz_lower.specs.StandsFor.{raw_value, RegistersAgree, Comes_here, WaitingStand, StandsRunning, ThreadStands}
 use Rattle.mz_lower.proofs.Addresses.{remaining, if_true, if_false, head_of}
-use Rattle.mz_lower.proofs.Changes.{set_here, set_other, set_long}
+use Rattle.mz_words.proofs.Lists.{set_here, set_other, set_long}
 use Rattle.mz_lower.proofs.Simulation.{Simulation, Inside}
 use Rattle.mz_lower.proofs.Still.{Still, still_keeps}
 

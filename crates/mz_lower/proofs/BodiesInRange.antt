@@ -4,7 +4,7 @@ use Rattle.mz_tree.specs.declared.types.Place.{Place}
 use Rattle.mz_tree.specs.Code.{Op, Int_op, Unit_op, Fun_op, Copy_op, Arith_op, New_op, Read_op, Write_op, Retag_op, If_op, Match_op, Call_op, Give_op, Take_op, New_lock_op, Acquire_op, Release_op, Spawn_op, Print_op, Command, The_command, Commands, No_commands, More_commands, Case, Cases, No_cases, More_cases, The_case, Body, The_body, result_of}
 use Rattle.mz_words.specs.declared.code.Instr.{Instr}
 use Rattle.mz_lower.specs.Layout.{size_body, size_commands, size_command, size_op, size_cases, size_case, lay_body, lay_commands, lay_command, lay_op, lay_cases, lay_case, lay_branch, branch_end, cons_in, targets_in}
-use Rattle.mz_lower.specs.InRange.{RegistersBelow, TargetsAhead, AllInRange}
+use Rattle.mz_words.specs.InRange.{RegistersBelow, TargetsAhead, AllInRange}
 use Rattle.mz_lower.proofs.Addresses.{long_body, long_command, long_case, long_branch}
 
 -- each name that a body uses is below n, and no block is too long

@@ -1,5 +1,5 @@
 -- Calls, and the first frame of a thread.
-use Rattle.std.proofs.Common.{◌≡◌, ◌≤◌, ◌==◌, inl, ℕ, zero, suc, ◌+◌, ◌*◌, ◌-◌, List, [], ◌∷◌, ◌++◌, length, map, Option, Some, None, Bool, true, false, leb, refl, sym, ap, ◌∙◌, subst, arith, eq-eqb, length-append}
+use Rattle.std.proofs.Common.{◌≡◌, ◌≤◌, ◌==◌, ℕ, zero, suc, ◌+◌, ◌*◌, ◌-◌, List, [], ◌∷◌, ◌++◌, length, map, Option, Some, None, Bool, true, false, leb, refl, sym, ap, ◌∙◌, subst, arith, eq-eqb, length-append}
 use Rattle.std.proofs.lemmas.List.{length-map}
 use Rattle.std.proofs.lemmas.Bool.{leb-false}
 use Rattle.std.specs.Prelude.{slice_get, slice_index_or, if◌then◌else◌}
@@ -120,8 +120,8 @@ module _ (p : Program) (c : Code) (coded : Coded p c) (o : Options) (s s' : Raw)
 
           calls_it : IsFunction p (values callee) (length args) → KeptAs p c o s s' w k (quiet_gives (ask_act c o (s.thread k) (Call to callee args)) (Call to callee args))
           calls_it function = by_two (KeptAs p c o s s' w k (quiet_gives (ask_act c o (s.thread k) (Call to callee args)) (Call to callee args))) (leb o.steps t.units) (is_full t b.start) _ _ _ (s'.thread k) outcome
-              (λ b1 q. kept_as p c o s s' w k _ false (named true (is_full t b.start) b1 refl) (cut_next p c o s s' w S k n u0 at.is at.here ending.Spent (inl (record { top = run.top; below = run.below; is = run.is; frames = record { regs = run.frames.regs; place = run.frames.place; under = run.frames.under } })) q e.number e.words e.blocks (e.born ∙ nil_right s.born) prints_same e.others))
-              (λ b1 b2 q. kept_as p c o s s' w k _ false (named false true b1 b2) (cut_next p c o s s' w S k n u0 at.is at.here (ending.StackFull place) (inl (record { top = run.top; below = run.below; is = run.is; frames = record { regs = run.frames.regs; place = run.frames.place; under = run.frames.under } })) q e.number e.words e.blocks (e.born ∙ nil_right s.born) prints_same e.others))
+              (λ b1 q. kept_as p c o s s' w k _ false (named true (is_full t b.start) b1 refl) (cut_next p c o s s' w S k n u0 at.is at.here ending.Spent (record { top = run.top; below = run.below; is = run.is; frames = record { regs = run.frames.regs; place = run.frames.place; under = run.frames.under } }) q e.number e.words e.blocks (e.born ∙ nil_right s.born) prints_same e.others))
+              (λ b1 b2 q. kept_as p c o s s' w k _ false (named false true b1 b2) (cut_next p c o s s' w S k n u0 at.is at.here (ending.StackFull place) (record { top = run.top; below = run.below; is = run.is; frames = record { regs = run.frames.regs; place = run.frames.place; under = run.frames.under } }) q e.number e.words e.blocks (e.born ∙ nil_right s.born) prints_same e.others))
               (λ some b2 q. kept_as p c o s s' w k _ true (named false false some b2) (
                 n,
                 at.is,

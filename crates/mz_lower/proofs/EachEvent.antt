@@ -27,7 +27,7 @@ use Rattle.mz_lower.proofs.CanDo.{ThreadIsFine}
 use Rattle.mz_lower.specs.Layout.{instr, size_body, size_op, lay_op, cons_in, targets_in}
 use Rattle.mz_lower.specs.NamedRuns.{local_gives, quiet_gives, gives_step_at, gives_step}
 use Rattle.mz_lower.specs.Addresses.{HasAt, OpBelow}
-use Rattle.mz_lower.specs.StandsFor.{raw_value, RegistersAgree, ComesTo, Comes_here, Comes_by_jump, WaitingStand, StandsRunning, StageStands, EndStands, IsCut}
+use Rattle.mz_lower.specs.StandsFor.{raw_value, RegistersAgree, ComesTo, Comes_here, Comes_by_jump, WaitingStand, StandsRunning, StageStands, EndStands}
 use Rattle.mz_lower.proofs.Addresses.{remaining, head_of, branch_end_place, return_place}
 use Rattle.mz_lower.proofs.Simulation.{Simulation, Dormant, EventAt, event_at}
 use Rattle.mz_lower.proofs.Binding.{nil_right, AtCommand, frame_at, at_frame, at_op}
@@ -139,7 +139,7 @@ module _ (p : Program) (c : Code) (coded : Coded p c) (o : Options) (limited : L
         let r = running_at c s w k n values to op place rest value outer below at in
         cut_ready _ Quiet (instr place a) ending.Spent at.here r e e.words e.blocks (e.born ∙ nil_right s.born)
         (e.prints ∙ ap (λ (l : List ℕ). s.prints ++ l) (quiet_prints (ask_act c o (s.thread k) a)) ∙ nil_right s.prints)
-        (inl (record { top = r.top; below = r.below; is = r.is; frames = record { regs = r.frames.regs; place = r.frames.place; under = r.frames.under } }))
+        (record { top = r.top; below = r.below; is = r.is; frames = record { regs = r.frames.regs; place = r.frames.place; under = r.frames.under } })
         (e.mine ∙ ap (λ (x : Ask). take_quiet c o (s.thread k) (instr place a) x) asks ∙ takes)
 
     refused : (op : Op) (a : Act) → AtCommand c s w k n values to op place rest value outer below → EventAt c o s k Refused s' Ready (Some (instr place a)) → Simulation p c o s' w
@@ -266,19 +266,19 @@ module _ (p : Program) (c : Code) (coded : Coded p c) (o : Options) (limited : L
         cut op e answer a at v none words blocks ends mine = (cut_next p c o s s' w S k n (at_frame values (at_op to op place rest value) outer below) is at.here e ends mine v.number words blocks (v.born ∙ nil_right s.born)
             (v.prints ∙ ap (λ (l : List ℕ). s.prints ++ l) none ∙ nil_right s.prints) v.others)
 
-        still : (op : Op) (e : End) → AtCommand c s w k n values to op place rest value outer below → IsCut c.instrs p s'.word k (stop e (s.thread k)) (at_frame values (at_op to op place rest value) outer below)
+        still : (op : Op) (e : End) → AtCommand c s w k n values to op place rest value outer below → StandsRunning c.instrs (stop e (s.thread k)) (at_frame values (at_op to op place rest value) outer below)
         still op e at = let r = running_at c s w k n values to op place rest value outer below at in
-            inl (record { top = r.top; below = r.below; is = r.is; frames = record { regs = r.frames.regs; place = r.frames.place; under = r.frames.under } })
+            record { top = r.top; below = r.below; is = r.is; frames = record { regs = r.frames.regs; place = r.frames.place; under = r.frames.under } }
 
         by_op : (op : Op) → AtCommand c s w k n values to op place rest value outer below → (answer : Answer) → EventAt c o s k answer s' (Making b y) (Some (instr place (act_of (s.thread k).at to op))) → KeptAt p c o s s' w k (Making b y) (Some (instr place (act_of (s.thread k).at to op))) answer
         by_op (New_op con ys) at (Saw m) e = (new_stores p c o s s' w S k n values to place rest value outer below limited con b y m ys at fine e)
         by_op (New_op con ys) at Quiet e = cut (New_op con ys) ending.Spent Quiet (New to con ys) at e (quiet_prints (ask_at c o k (s.thread k) (Making b y) (Some (instr place (New to con ys))))) e.words e.blocks (still (New_op con ys) ending.Spent at) e.mine
         by_op (New_op con ys) at Missed e = absurd (counted_not Missed o (s.thread k) _ (λ h. h) (placed_not Missed o _ _ (λ h. h) (λ h. h)) e.may)
-        by_op (New_op con ys) at Refused e = cut (New_op con ys) ending.Memory Refused (New to con ys) at e (refused_prints (ask_at c o k (s.thread k) (Making b y) (Some (instr place (New to con ys))))) e.words e.blocks (still (New_op con ys) ending.Memory at) e.mine
+        by_op (New_op con ys) at Refused e = cut (New_op con ys) ending.Memory Refused (New to con ys) at e (refused_prints (ask_at c o k (s.thread k) (Making b y) (Some (instr place (New to con ys))))) e.words e.blocks (inl (still (New_op con ys) ending.Memory at)) e.mine
         by_op (New_lock_op guarded) at (Saw m) e = (lock_stores p c o s s' w S k n values to place rest value outer below limited b y m guarded at e)
         by_op (New_lock_op guarded) at Quiet e = cut (New_lock_op guarded) ending.Spent Quiet (NewLock to) at e (quiet_prints (ask_at c o k (s.thread k) (Making b y) (Some (instr place (NewLock to))))) e.words e.blocks (still (New_lock_op guarded) ending.Spent at) e.mine
         by_op (New_lock_op guarded) at Missed e = absurd (counted_not Missed o (s.thread k) _ (λ h. h) (placed_not Missed o _ _ (λ h. h) (λ h. h)) e.may)
-        by_op (New_lock_op guarded) at Refused e = cut (New_lock_op guarded) ending.Memory Refused (NewLock to) at e (refused_prints (ask_at c o k (s.thread k) (Making b y) (Some (instr place (NewLock to))))) e.words e.blocks (still (New_lock_op guarded) ending.Memory at) e.mine
+        by_op (New_lock_op guarded) at Refused e = cut (New_lock_op guarded) ending.Memory Refused (NewLock to) at e (refused_prints (ask_at c o k (s.thread k) (Making b y) (Some (instr place (NewLock to))))) e.words e.blocks (inl (still (New_lock_op guarded) ending.Memory at)) e.mine
         by_op op at answer e = absurd (nothing answer e.may)
 
     -- thread k is inside a command that takes a block back
@@ -293,15 +293,15 @@ module _ (p : Program) (c : Code) (coded : Coded p c) (o : Options) (limited : L
         cut op e answer a at v none words blocks ends mine = (cut_next p c o s s' w S k n (at_frame values (at_op to op place rest value) outer below) is at.here e ends mine v.number words blocks (v.born ∙ nil_right s.born)
             (v.prints ∙ ap (λ (l : List ℕ). s.prints ++ l) none ∙ nil_right s.prints) v.others)
 
-        still : (op : Op) (e : End) → AtCommand c s w k n values to op place rest value outer below → IsCut c.instrs p s'.word k (stop e (s.thread k)) (at_frame values (at_op to op place rest value) outer below)
+        still : (op : Op) (e : End) → AtCommand c s w k n values to op place rest value outer below → StandsRunning c.instrs (stop e (s.thread k)) (at_frame values (at_op to op place rest value) outer below)
         still op e at = let r = running_at c s w k n values to op place rest value outer below at in
-            inl (record { top = r.top; below = r.below; is = r.is; frames = record { regs = r.frames.regs; place = r.frames.place; under = r.frames.under } })
+            record { top = r.top; below = r.below; is = r.is; frames = record { regs = r.frames.regs; place = r.frames.place; under = r.frames.under } }
 
         by_op : (op : Op) → AtCommand c s w k n values to op place rest value outer below → (answer : Answer) → EventAt c o s k answer s' Taking (Some (instr place (act_of (s.thread k).at to op))) → KeptAt p c o s s' w k Taking (Some (instr place (act_of (s.thread k).at to op))) answer
         by_op (Take_op x y) at (Saw m) e = step_is (clear_next p c o s s' w S safe k n values to place rest value outer below x y m at fine e)
         by_op (Take_op x y) at Quiet e = cut (Take_op x y) ending.Spent Quiet (Take to x y) at e (quiet_prints (ask_at c o k (s.thread k) Taking (Some (instr place (Take to x y))))) e.words e.blocks (still (Take_op x y) ending.Spent at) e.mine
         by_op (Take_op x y) at Missed e = absurd (counted_not Missed o (s.thread k) _ (λ h. h) (placed_not Missed o _ _ (λ h. h) (λ h. h)) e.may)
-        by_op (Take_op x y) at Refused e = cut (Take_op x y) ending.Memory Refused (Take to x y) at e (refused_prints (ask_at c o k (s.thread k) Taking (Some (instr place (Take to x y))))) e.words e.blocks (still (Take_op x y) ending.Memory at) e.mine
+        by_op (Take_op x y) at Refused e = cut (Take_op x y) ending.Memory Refused (Take to x y) at e (refused_prints (ask_at c o k (s.thread k) Taking (Some (instr place (Take to x y))))) e.words e.blocks (inl (still (Take_op x y) ending.Memory at)) e.mine
         by_op op at answer e = absurd (nothing answer e.may)
 
     -- thread k is inside a command that starts a thread
@@ -316,15 +316,15 @@ module _ (p : Program) (c : Code) (coded : Coded p c) (o : Options) (limited : L
         cut op e answer a at v born none words blocks ends mine = (cut_next p c o s s' w S k n (at_frame values (at_op to op place rest value) outer below) is at.here e ends mine v.number words blocks born
             (v.prints ∙ ap (λ (l : List ℕ). s.prints ++ l) none ∙ nil_right s.prints) v.others)
 
-        still : (op : Op) (e : End) → AtCommand c s w k n values to op place rest value outer below → IsCut c.instrs p s'.word k (stop e (s.thread k)) (at_frame values (at_op to op place rest value) outer below)
+        still : (op : Op) (e : End) → AtCommand c s w k n values to op place rest value outer below → StandsRunning c.instrs (stop e (s.thread k)) (at_frame values (at_op to op place rest value) outer below)
         still op e at = let r = running_at c s w k n values to op place rest value outer below at in
-            inl (record { top = r.top; below = r.below; is = r.is; frames = record { regs = r.frames.regs; place = r.frames.place; under = r.frames.under } })
+            record { top = r.top; below = r.below; is = r.is; frames = record { regs = r.frames.regs; place = r.frames.place; under = r.frames.under } }
 
         by_op : (op : Op) → AtCommand c s w k n values to op place rest value outer below → (answer : Answer) → EventAt c o s k answer s' (Spawning j i) (Some (instr place (act_of (s.thread k).at to op))) → KeptAt p c o s s' w k (Spawning j i) (Some (instr place (act_of (s.thread k).at to op))) answer
         by_op (Spawn_op callee arg) at (Saw m) e = (spawn_stores p c coded o limited s s' w S k n values to place rest value outer below callee arg at fine j i m e)
         by_op (Spawn_op callee arg) at Quiet e = cut (Spawn_op callee arg) ending.Spent Quiet (Spawn to callee arg) at e (e.born ∙ nil_right s.born) (quiet_prints (ask_at c o k (s.thread k) (Spawning j i) (Some (instr place (Spawn to callee arg))))) e.words e.blocks (still (Spawn_op callee arg) ending.Spent at) e.mine
         by_op (Spawn_op callee arg) at Missed e = absurd (counted_not Missed o (s.thread k) _ (λ h. h) (spawn_missed (s.thread k) callee arg j i) e.may)
-        by_op (Spawn_op callee arg) at Refused e = cut (Spawn_op callee arg) ending.Memory Refused (Spawn to callee arg) at e (e.born ∙ nil_right s.born) (refused_prints (ask_at c o k (s.thread k) (Spawning j i) (Some (instr place (Spawn to callee arg))))) e.words e.blocks (still (Spawn_op callee arg) ending.Memory at) e.mine
+        by_op (Spawn_op callee arg) at Refused e = cut (Spawn_op callee arg) ending.Memory Refused (Spawn to callee arg) at e (e.born ∙ nil_right s.born) (refused_prints (ask_at c o k (s.thread k) (Spawning j i) (Some (instr place (Spawn to callee arg))))) e.words e.blocks (inl (still (Spawn_op callee arg) ending.Memory at)) e.mine
         by_op op at answer e = absurd (nothing answer e.may)
 
   -- thread k stands at the end of a body

@@ -1,5 +1,5 @@
 -- Whoever asks nothing is over, and no thread is at fault.
-use Rattle.std.proofs.Common.{◌≡◌, ◌<◌, inl, inr, ℕ, zero, suc, ◌+◌, length, Option, Some, Bool, true, false, leb, ltb, refl, sym, ap, ◌∙◌, subst, arith}
+use Rattle.std.proofs.Common.{◌≤◌, ◌≡◌, ◌<◌, inl, inr, ℕ, zero, suc, ◌+◌, length, Option, Some, Bool, true, false, leb, ltb, refl, sym, ap, ◌∙◌, subst, arith}
 use Rattle.std.specs.Prelude.{slice_get, if◌then◌else◌}
 use Rattle.std.proofs.lemmas.Bool.{lt-ltb}
 use Rattle.mz_tree.specs.Programs.{Program}
@@ -182,6 +182,17 @@ module _ (p : Program) (c : Code) (coded : Coded p c) (o : Options) (s : Raw) (w
   unfolding ask
   ask_some k e = asks_some k (s.thread k).stage refl e
 
+  behind_header : (b n i : ℕ) → s.blocks b ≡ Some n → i < n → 197 ≤ b + i
+  behind_header b n i e l = S.low (b + i) b (S.in_block b n i e l)
+
+  made_behind : (k base i : ℕ) → (s.thread k).stage ≡ Making base i → 197 ≤ base + i
+  made_behind k base i e =
+      let q = at_running k (Making base i) e tt in
+      let h : HalfMade s.word w S.base_of S.maker k (s.thread k) q.instr.act base i =
+      subst (λ (x : Option Instr). Inside s.word w S.base_of S.maker S.spawner k (s.thread k) (Making base i) x) q.found
+      (subst (λ (x : Stage). Inside s.word w S.base_of S.maker S.spawner k (s.thread k) x (slice_get c.instrs (s.thread k).at)) e (S.inside k)) in
+      S.low (base + i) base (h.words i h.few)
+
   -- no thread's next act is a fault: by what the named command finds, and no place is outside the words
   pub no_fault : NoFault c o s
-  no_fault = record { acts = λ k r. at_running k (s.thread k).stage refl r; asks = ask_some; inside = inside_heap }
+  no_fault = record { acts = λ k r. at_running k (s.thread k).stage refl r; asks = ask_some; inside = inside_heap; behind = behind_header; making = made_behind }

@@ -63,7 +63,7 @@ module _ (p : Program) (c : Code) (o : Options) (s s' : Raw) (w : Config) (S : S
       by_stage Quiet IdleStop st q v h = let e = at Quiet IdleStop v st in
           goes IdleLive (waiting_words p s.word s'.word k u (λ x z. e.words x) q) (λ w2. tt) e.mine e.number e.words e.blocks (e.born ∙ nil_right s.born) (e.prints ∙ nil_right s.prints) e.others
       by_stage (Saw m) IdleLive st q v h = let e = at (Saw m) IdleLive v st in
-          goes (Over ending.NeverStarted) (inr (waiting_words p s.word s'.word k u (λ x z. e.words x ∙ same_either (2 == x) (s.word x)) q)) (λ w2. tt) e.mine e.number (λ x. e.words x ∙ same_either (2 == x) (s.word x)) e.blocks (e.born ∙ nil_right s.born) (e.prints ∙ nil_right s.prints) e.others
+          goes (Over ending.NeverStarted) (waiting_words p s.word s'.word k u (λ x z. e.words x ∙ same_either (2 == x) (s.word x)) q) (λ w2. tt) e.mine e.number (λ x. e.words x ∙ same_either (2 == x) (s.word x)) e.blocks (e.born ∙ nil_right s.born) (e.prints ∙ nil_right s.prints) e.others
       by_stage Quiet IdleLive st q v h = let e = at Quiet IdleLive v st in
           goes Idle (waiting_words p s.word s'.word k u (λ x z. e.words x) q) (λ w2. tt) e.mine e.number e.words e.blocks (e.born ∙ nil_right s.born) (e.prints ∙ nil_right s.prints) e.others
       by_stage Missed Idle st q v h = absurd (at Missed Idle v st).may

@@ -26,7 +26,7 @@ use Rattle.mz_lower.specs.Layout.{instr, size_body, size_op}
 use Rattle.mz_lower.specs.Addresses.{StandsAt}
 use Rattle.mz_lower.specs.StandsFor.{raw_value, RegistersAgree, ComesTo, Comes_here, Comes_by_jump, WaitingStand, None_wait, One_waits, StandsRunning, ThreadStands, EndStands}
 use Rattle.mz_lower.proofs.Addresses.{remaining, if_false, if_place, branch_end_place}
-use Rattle.mz_lower.proofs.Changes.{set_long}
+use Rattle.mz_words.proofs.Lists.{set_long}
 use Rattle.mz_lower.proofs.Simulation.{Simulation, EventAt}
 use Rattle.mz_lower.proofs.CanDo.{ThreadIsFine, CanDo, Can_act, Can_stop, Can_wait, Can_choose, Can_call, Can_spawn, fine_can}
 use Rattle.mz_lower.proofs.Binding.{nil_right, bind, bind_binds, regs_bound, AtCommand, frame_at, at_frame, at_op, next_of, moves_on, binds_on, goes_with, rests_with, gone}

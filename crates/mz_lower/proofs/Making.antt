@@ -19,7 +19,8 @@ use Rattle.mz_named.specs.Machine.{Block_value, Cell, Block_cell, Lock_cell, Con
 use Rattle.mz_lower.specs.Layout.{size_op}
 use Rattle.mz_lower.specs.StandsFor.{WordsAgree, cell_words, cell_word, StandsRunning, ThreadStands}
 use Rattle.mz_lower.proofs.Addresses.{some_inj, none_some, if_true, if_false}
-use Rattle.mz_lower.proofs.Changes.{total_most, set_long}
+use Rattle.mz_words.proofs.Lists.{set_long}
+use Rattle.mz_lower.proofs.Changes.{total_most}
 use Rattle.mz_lower.proofs.Simulation.{Simulation, HalfMade, Taken, Inside}
 use Rattle.mz_lower.proofs.Still.{spawned_still, taken_goes, inside_still}
 use Rattle.mz_lower.proofs.OneThread.{next_keeps, inside_goes}
@@ -188,7 +189,7 @@ module _ (p : Program) (c : Code) (o : Options) (s s' : Raw) (w : Config) (S : S
     thread = u;
     here = here;
     named_others = λ x d. refl;
-    mine = subst (λ (t : Standing). ThreadStands c.instrs p s'.word k t u) (sym mine) (inl (record { top = r.top; below = r.below; is = r.is; frames = record { regs = r.frames.regs; place = r.frames.place; under = r.frames.under } }));
+    mine = subst (λ (t : Standing). ThreadStands c.instrs p s'.word k t u) (sym mine) (record { top = r.top; below = r.below; is = r.is; frames = record { regs = r.frames.regs; place = r.frames.place; under = r.frames.under } });
     starts = λ j x e a h. other_words a (full_high a j h);
     base_of = S.base_of;
     maker = S.maker;

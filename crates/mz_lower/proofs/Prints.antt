@@ -22,7 +22,7 @@ use Rattle.mz_named.specs.Machine.{Int_value, Step_acts, Config, Thread, Environ
 use Rattle.mz_lower.specs.Layout.{instr}
 use Rattle.mz_lower.specs.StandsFor.{raw_value, StandsRunning, ThreadStands, IsCut, EndStands}
 use Rattle.mz_lower.proofs.Addresses.{remaining, if_false}
-use Rattle.mz_lower.proofs.Changes.{set_long}
+use Rattle.mz_words.proofs.Lists.{set_long}
 use Rattle.mz_lower.proofs.Simulation.{Simulation, Inside, EventAt}
 use Rattle.mz_lower.proofs.Still.{still_keeps, start_word, waiting_words}
 use Rattle.mz_lower.proofs.CanDo.{ThreadIsFine, CanDo, Can_act, Can_stop, Can_wait, Can_choose, Can_call, Can_spawn, fine_can}
@@ -99,8 +99,11 @@ closing_words : (e : End) (m : ℕ) (word : ℕ → ℕ) (q : ℕ) → (q < 2) �
 closing_words ending.Done m word q h = off_word 2 q (omega arith) (omega arith) h _ _
 closing_words e m word q h = off_word 3 q (omega arith) (omega arith) h _ _
 
+runs_over : (code : List Instr) (t : Standing) (stage : Stage) (u : Thread) → StandsRunning code t u → StandsRunning code (record t { stage = stage }) u
+runs_over code t stage u r = record { top = r.top; below = r.below; is = r.is; frames = record { regs = r.frames.regs; place = r.frames.place; under = r.frames.under } }
+
 cut_over : (code : List Instr) (p : Program) (f g : ℕ → ℕ) (k : ℕ) (t : Standing) (stage : Stage) (u : Thread) → ((a : ℕ) → (a ≡ 6 + 3 * k) ⊎ (a ≡ 7 + 3 * k) → g a ≡ f a) → IsCut code p f k t u → IsCut code p g k (record t { stage = stage }) u
-cut_over code p f g k t stage u h (inl r) = inl (record { top = r.top; below = r.below; is = r.is; frames = record { regs = r.frames.regs; place = r.frames.place; under = r.frames.under } })
+cut_over code p f g k t stage u h (inl r) = inl (runs_over code t stage u r)
 cut_over code p f g k t stage u h (inr q) = inr (waiting_words p f g k u h q)
 
 -- an end says the same from its closing entry on
@@ -108,7 +111,10 @@ over_stands : (code : List Instr) (p : Program) (f g : ℕ → ℕ) (k : ℕ) (t
 over_stands code p f g k t ending.Done u h q = q
 over_stands code p f g k t (ending.TakeFailed place) u h q = q
 over_stands code p f g k t (ending.Arith place) u h q = q
-over_stands code p f g k t e u h q = cut_over code p f g k t (Over e) u h q
+over_stands code p f g k t ending.NeverStarted u h q = waiting_words p f g k u h q
+over_stands code p f g k t ending.Halted u h q = cut_over code p f g k t (Over ending.Halted) u h q
+over_stands code p f g k t ending.Memory u h q = cut_over code p f g k t (Over ending.Memory) u h q
+over_stands code p f g k t e u h q = runs_over code t (Over e) u q
 
 -- a failed try: the thread looks at STOP again, or ends Blocked
 module _ (p : Program) (c : Code) (o : Options) (s s' : Raw) (w : Config) (S : Simulation p c o s w) (k n : ℕ) (u : Thread) (is : slice_get s.born n ≡ Some k) (here : slice_get w.threads n ≡ Some u) where
@@ -117,7 +123,7 @@ module _ (p : Program) (c : Code) (o : Options) (s s' : Raw) (w : Config) (S : S
       → ((j : ℕ) → j ≢ k → s'.thread j ≡ s.thread j) → Simulation p c o s' w
   missed_next place r mine number words blocks born prints others = by_bool (Simulation p c o s' w) ((s.thread k).lost + 1 == o.tries) _ _ (s'.thread k) mine
       (λ q. rests_with p c o s s' w S k n number (λ x h. words x) blocks born prints others is u u here (record (s.thread k) { lost = (s.thread k).lost + 1; stage = Closing (ending.Blocked place) }) 0 q (omega arith) (S.units k)
-      (inl (record { top = r.top; below = r.below; is = r.is; frames = record { regs = r.frames.regs; place = r.frames.place; under = r.frames.under } })) (λ w2 h. tt) refl)
+      (record { top = r.top; below = r.below; is = r.is; frames = record { regs = r.frames.regs; place = r.frames.place; under = r.frames.under } }) (λ w2 h. tt) refl)
       (λ q. rests_with p c o s s' w S k n number (λ x h. words x) blocks born prints others is u u here (record (s.thread k) { lost = (s.thread k).lost + 1; stage = Border }) 0 q (omega arith) (S.units k)
       (record { top = r.top; below = r.below; is = r.is; frames = record { regs = r.frames.regs; place = r.frames.place; under = r.frames.under } }) (λ w2 h. tt) refl)
 

@@ -1,6 +1,6 @@
 -- Two threads' next word steps, of which one is a store, meet at no tag and at no field.
-use Rattle.std.proofs.Common.{◌≡◌, ◌≢◌, ◌<◌, inl, inr, ℕ, zero, suc, ◌+◌, ◌*◌, List, [], ◌∷◌, length, Option, Some, None, Bool, true, false, leb, ltb, refl, sym, ap, ◌∙◌, subst, arith}
-use Rattle.std.specs.Prelude.{slice_get, if◌then◌else◌}
+use Rattle.std.proofs.Common.{◌≡◌, ◌≢◌, ◌<◌, inl, inr, ℕ, zero, suc, ◌+◌, ◌*◌, List, [], ◌∷◌, length, Option, Some, None, refl, sym, ap, ◌∙◌, subst, arith}
+use Rattle.std.specs.Prelude.{slice_get}
 use Rattle.mz_tree.specs.declared.types.Place.{Place}
 use Rattle.mz_tree.specs.Code.{Op, Arith_op, New_op, Read_op, Write_op, Retag_op, If_op, Match_op, Call_op, Give_op, Take_op, New_lock_op, Acquire_op, Release_op, Spawn_op, Print_op, Command, The_command, Body, op_of}
 use Rattle.mz_tree.specs.Programs.{Program}
@@ -13,17 +13,16 @@ use Rattle.mz_words.specs.declared.options.Options.{Options}
 use Rattle.mz_words.specs.declared.ends.End.{End}
 use Rattle.mz_words.specs.declared.ends.End.TheVariants as ending
 use Rattle.mz_tape.specs.declared.entry.Kind.TheVariants.{Store, Load}
-use Rattle.mz_words.specs.declared.asks.Ask.{Ask}
-use Rattle.mz_words.specs.declared.asks.Ask.TheVariants.{Local, Frames, Nothing}
 use Rattle.mz_words.specs.declared.stages.Stage.{Stage}
 use Rattle.mz_words.specs.declared.stages.Stage.TheVariants.{Idle, IdleStop, IdleLive, LoadFun, LoadArg, Entering, Border, Ready, Making, Taking, Spawning, Unmatched, Closing, Over}
 use Rattle.mz_words.specs.Standing.{Standing}
-use Rattle.mz_words.specs.Steps.{reg, counted, placed, ask_act, ask_making, ask_taking, ask_spawning, spawn_step, ask_call, ask_spawn, ask_frame, ask_closing, ask_found, ask_at, ask, callee_of, is_full, first_params}
+use Rattle.mz_words.specs.Steps.{made_words, reg, ask_act, ask_making, ask_taking, ask_spawning, spawn_step, ask_spawn, ask_frame, ask_closing, ask_found, ask_at, ask, callee_of, first_params}
 use Rattle.mz_words.specs.Answers.{Move, move_of}
 use Rattle.mz_words.specs.Raw.{Raw}
 use Rattle.mz_named.specs.Machine.{Value, Block_value, Environment, Cells, Frame, Acts, Stops, Chooses, Touches, WritesTo, Level, Suspended, Config, Thread, IsAt, IsFine}
 use Rattle.mz_lower.specs.StandsFor.{raw_value, RegistersAgree, ComesTo, Comes_here, Comes_by_jump, WaitingStand, StandsRunning, StageStands}
 use Rattle.mz_words.specs.Faults.{HasBlock, IsSoundAct, IsSound, IsAtInstruction, MayMeet, NoRace}
+use Rattle.mz_words.proofs.Moving.{counted_move, both_move, call_move}
 use Rattle.mz_lower.proofs.Addresses.{remaining, some_inj, none_some, head_of, branch_end_place, return_place}
 use Rattle.mz_lower.proofs.Simulation.{Simulation, HalfMade, Spawned, Inside, Started}
 use Rattle.mz_lower.proofs.CanDo.{ThreadIsFine, CanDo, WaitsHere, Can_act, Can_stop, Can_wait, Can_choose, Can_call, Can_spawn, fine_can}
@@ -72,31 +71,6 @@ names_block p at values op (Can_call callee args e f) = subst (λ (x : Op). Name
 names_block p at values op (Can_spawn callee arg e f) = subst (λ (x : Op). NamesBlock values x) (sym e) tt
 
 -- ---- moves of what is asked
-
-counted_move : (o : Options) (t : Standing) (x : Ask) (m : Move) → move_of (counted o t x) ≡ Some m → move_of x ≡ Some m
-counted_move o t x m e = by (leb o.steps t.units) e
-  where
-    by : (b : Bool) → move_of (if b then Local else x) ≡ Some m → move_of x ≡ Some m
-    by true e = absurd (none_some refl e)
-    by false e = e
-
-placed_move : (o : Options) (place : ℕ) (x : Ask) (m : Move) → move_of (placed o place x) ≡ Some m → move_of x ≡ Some m
-placed_move o place x m e = by (ltb place o.heap) e
-  where
-    by : (b : Bool) → move_of (if b then x else Nothing) ≡ Some m → move_of x ≡ Some m
-    by true e = e
-    by false e = absurd (none_some refl e)
-
-both_move : (o : Options) (t : Standing) (place : ℕ) (x : Ask) (m : Move) → move_of (counted o t (placed o place x)) ≡ Some m → move_of x ≡ Some m
-both_move o t place x m e = placed_move o place x m (counted_move o t (placed o place x) m e)
-
-call_move : (t : Standing) (a : Option Start) (m : Move) → move_of (ask_call t a) ≡ Some m → ⊥
-call_move t None m e = none_some refl e
-call_move t (Some start) m e = by (is_full t start) e
-  where
-    by : (b : Bool) → move_of (if b then Local else Frames start.registers) ≡ Some m → ⊥
-    by true e = none_some refl e
-    by false e = none_some refl e
 
 frame_move : (a : Option Start) (m : Move) → move_of (ask_frame a) ≡ Some m → ⊥
 frame_move None m e = none_some refl e
@@ -320,9 +294,30 @@ module _ (p : Program) (c : Code) (coded : Coded p c) (o : Options) (s : Raw) (w
       let both : q.fields + 2 ≡ 1 = some_inj (sym q.complete ∙ ap s.blocks same ∙ z) in
       omega (arith, both)
 
+  half_made : (k base i j : ℕ) (instr : Instr) → (s.thread k).stage ≡ Making base i → slice_get c.instrs (s.thread k).at ≡ Some instr → j < made_words instr.act → MayMeet s (base + j) → ⊥
+  half_made k base i j instr e found l meets =
+      let q = at_running p c coded o s w S safe k (Making base i) e tt in
+      let h : HalfMade s.word w S.base_of S.maker k (s.thread k) q.instr.act base i =
+      subst (λ (x : Option Instr). Inside s.word w S.base_of S.maker S.spawner k (s.thread k) (Making base i) x) q.found
+      (subst (λ (x : Stage). Inside s.word w S.base_of S.maker S.spawner k (s.thread k) x (slice_get c.instrs (s.thread k).at)) e (S.inside k)) in
+      let belongs = h.words j (subst (λ (x : Instr). j < made_words x.act) (some_inj (sym found ∙ q.found)) l) in
+      by belongs h.mine meets
+    where
+      by : S.base_of (base + j) ≡ Some base → S.maker base ≡ Some k → MayMeet s (base + j) → ⊥
+      by belongs mine (inl low) = omega (arith, low, S.low (base + j) base belongs)
+      by belongs mine (inr (inl z)) =
+          let same : base ≡ z.0 = one_block (base + j) (z.0 + 1) base z.0 z.2 belongs (S.in_block z.0 (z.1.fields + 2) 1 z.1.complete (omega arith)) in
+          none_some (whole_block z.0 z.1) (ap S.maker (sym same) ∙ mine)
+      by belongs mine (inr (inr z)) =
+          let lock : S.base_of (base + j + 0) ≡ Some (base + j) = S.in_block (base + j) 1 0 z (omega arith) in
+          let same : base ≡ base + j = one_block (base + j) (base + j + 0) base (base + j) (omega arith) belongs lock in
+          let cell = S.stands.complete (base + j) 1 z in
+          none_some (S.made (base + j) cell.0 cell.1) (ap S.maker (sym same) ∙ mine)
+
   -- two moves that meet at a tag or a field would be a race by name, or of two blocks that are being made
   pub no_race : NoRace c o s
   no_race = record {
     meet = λ j k l h d m n e f same store. meet_at j k d m n same store (reaches j l m e) (reaches k h n f);
     apart = apart;
+    half_made = half_made;
   }

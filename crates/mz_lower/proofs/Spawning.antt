@@ -20,7 +20,8 @@ use Rattle.mz_words.specs.Raw.{Raw}
 use Rattle.mz_named.specs.Machine.{Int_value, Heap, Config, Thread, Running, Environment, Level, Suspended, IsFunction, Puts, Step_spawns, start}
 use Rattle.mz_lower.specs.StandsFor.{raw_value, cell_words, HasNamedThread, StageStands, StandsBeforeStart, ThreadStands, EndStands}
 use Rattle.mz_lower.proofs.Addresses.{remaining, some_inj, none_some, if_true, if_false}
-use Rattle.mz_lower.proofs.Changes.{total, set_long}
+use Rattle.mz_words.proofs.Lists.{set_long}
+use Rattle.mz_lower.proofs.Changes.{total}
 use Rattle.mz_lower.proofs.Simulation.{Simulation, HalfMade, Drawn, Spawned, Inside, Started, Dormant, DormantEnd}
 use Rattle.mz_lower.proofs.Still.{taken_goes, stage_words, units_rise}
 use Rattle.mz_lower.proofs.OneThread.{next_keeps, inside_goes}
@@ -129,7 +130,7 @@ woken code p word j t (Over e) u d q = over_woken e d
   where
     over_woken : (e : End) → DormantEnd e → EndStands code p word j t e u
     over_woken ending.Halted d = inr q
-    over_woken ending.NeverStarted d = inr q
+    over_woken ending.NeverStarted d = q
     over_woken ending.Done d = absurd d
     over_woken (ending.TakeFailed place) d = absurd d
     over_woken (ending.Arith place) d = absurd d

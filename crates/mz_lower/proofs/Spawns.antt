@@ -1,5 +1,5 @@
 -- The steps of a Spawn.
-use Rattle.std.proofs.Common.{◌≡◌, ◌≢◌, ◌<◌, ◌≤◌, ◌==◌, inl, ℕ, zero, suc, ◌+◌, ◌*◌, ◌%◌, ◌^◌, List, Option, Some, ltb, refl, sym, ap, ◌∙◌, subst, arith, eq-eqb, ne_eqb}
+use Rattle.std.proofs.Common.{◌≡◌, ◌≢◌, ◌<◌, ◌≤◌, ◌==◌, ℕ, zero, suc, ◌+◌, ◌*◌, ◌%◌, ◌^◌, List, Option, Some, ltb, refl, sym, ap, ◌∙◌, subst, arith, eq-eqb, ne_eqb}
 use Rattle.std.specs.Prelude.{slice_get}
 use Rattle.std.proofs.Math.Nat.{mod-eq_of_lt}
 use Rattle.std.proofs.lemmas.Bool.{ltb-true}
@@ -77,7 +77,7 @@ module _ (p : Program) (c : Code) (coded : Coded p c) (o : Options) (limited : L
       (λ b q. header_on p c o s s' w S k n u0 e.number 1 (omega arith) words e.blocks (e.born ∙ nil_right s.born) (f.prints ∙ nil_right s.prints) e.others asked.1 at.is at.here
       (stop (ending.ThreadsFull place) (unit_at Ready (s.thread k))) q refl S.spawner
       (λ z. omega (arith, z)) (omega (arith, next_is, f.agrees)) (omega (arith, next_is, f.agrees))
-      (inl (record { top = run.top; below = run.below; is = run.is; frames = record { regs = run.frames.regs; place = run.frames.place; under = run.frames.under } }))
+      (record { top = run.top; below = run.below; is = run.is; frames = record { regs = run.frames.regs; place = run.frames.place; under = run.frames.under } })
       (λ j x z. ((λ h. omega (arith, h)), (λ h. omega (arith, h)), (S.born_drawn x j z).1))
       (λ j h. omega (arith, h))
       (λ j l. S.undrawn j (omega (arith, l, next_is, f.agrees)))

@@ -38,7 +38,10 @@ end_words : (code : List Instr) (p : Program) (f g : ℕ → ℕ) (k : ℕ) (t :
 end_words code p f g k t ending.Done u h q = q
 end_words code p f g k t (ending.TakeFailed place) u h q = q
 end_words code p f g k t (ending.Arith place) u h q = q
-end_words code p f g k t e u h q = cut_words code p f g k t u h q
+end_words code p f g k t ending.NeverStarted u h q = waiting_words p f g k u h q
+end_words code p f g k t ending.Halted u h q = cut_words code p f g k t u h q
+end_words code p f g k t ending.Memory u h q = cut_words code p f g k t u h q
+end_words code p f g k t e u h q = q
 
 -- a thread stands for the same where the words of its start are the same
 pub stage_words : (code : List Instr) (p : Program) (f g : ℕ → ℕ) (k : ℕ) (t : Standing) (stage : Stage) (u : Thread) → ((a : ℕ) → (a ≡ 6 + 3 * k) ⊎ (a ≡ 7 + 3 * k) → g a ≡ f a) → StageStands code p f k t stage u → StageStands code p g k t stage u

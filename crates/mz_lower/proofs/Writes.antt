@@ -18,7 +18,7 @@ use Rattle.mz_named.specs.Machine.{Value, Int_value, Cell, Block_cell, Lock_cell
 use Rattle.mz_lower.specs.Layout.{instr, size_op}
 use Rattle.mz_lower.specs.StandsFor.{raw_value, cell_words, cell_word, ThreadStands}
 use Rattle.mz_lower.proofs.Addresses.{if_true, if_false}
-use Rattle.mz_lower.proofs.Changes.{set_long}
+use Rattle.mz_words.proofs.Lists.{set_long}
 use Rattle.mz_lower.proofs.Simulation.{Simulation, EventAt, Inside, Taken}
 use Rattle.mz_lower.proofs.CanDo.{ThreadIsFine, CanDo, Can_act, Can_stop, Can_wait, Can_choose, Can_call, Can_spawn, fine_can}
 use Rattle.mz_lower.proofs.Binding.{nil_right, AtCommand, next_of, step_acts, bound_thread, bound_goes, gave_frames}

@@ -19,13 +19,13 @@ pub record Lowerable (p : Program) : Type 0 where
   pub room : (f : ℕ) (fun : Fun) (sig : Sig) → slice_get p.funs f ≡ Some fun → slice_get p.sigs fun.sig ≡ Some sig → sig.count ≤ length fun.spelling
   pub main : (f : ℕ) (fun : Fun) → slice_get p.funs f ≡ Some fun → bytes_eq fun.name (codes "main") ≡ true → (f ≡ (code_of p).main) × (sig : Sig) × (slice_get p.sigs fun.sig ≡ Some sig) × (sig.count ≡ 0)
 
--- what a state to which a list of events leads has come to: it stands for where the named run of just the steps that the events
--- gave has come to; there each thread goes on or waits, and no two race; and at the words no thread's next act is a fault, and
--- no two threads race
-pub record StandsSafely (p : Program) (c : Code) (o : Options) (first : Raw) (start : Config) (s : Raw) : Type 0 where
+-- what a list of events comes to: the state that it leads to stands for where the named run of just the steps that these events
+-- gave has come to; there each thread goes on or waits, and no two race; and at the words no thread's next act is a fault, and no
+-- two threads race
+pub record StandsSafely (p : Program) (c : Code) (o : Options) (first : Raw) (start : Config) (s : Raw) (events : Events c o first s) : Type 0 where
   pub named : Config
   pub steps : NSteps p start named
-  pub run : NamedRun p c o first start s named
+  pub run : NamedRun p c o first start s events named
   pub fine : IsFine p named
   pub stands : StandsFor p c s named
   pub faultless : NoFault c o s
@@ -34,4 +34,4 @@ pub record StandsSafely (p : Program) (c : Code) (o : Options) (first : Raw) (st
 -- each list of events on the code of a program that is safe by name comes to that
 abbrev pub Simulates : Type 0
 Simulates = (p : Program) (o : Options) (first s : Raw) (start : Config) → Lowerable p → o.steps ≤ 1000000 → Opens (code_of p) first → IsOpening p start → NamedSafe p
-    → Events (code_of p) o first s → StandsSafely p (code_of p) o first start s
+    → (events : Events (code_of p) o first s) → StandsSafely p (code_of p) o first start s events

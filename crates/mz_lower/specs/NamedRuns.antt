@@ -1,8 +1,9 @@
 -- The run of the named machine that a list of events gives.
 --
 -- A command's step is that of its last word step, or of its local act where it has none; a take that fails gives its stop at its
--- load. The copy that ends a branch gives the end of the branch, and the jump behind it gives no step.
-use Rattle.std.specs.Prelude.{◌≡◌, ◌==◌, not, ℕ, ◌+◌, Bool, true, false, Option, Some, slice_get}
+-- load. The copy that ends a branch gives the end of the branch, and the jump behind it gives no step. The name of a new block is
+-- its address.
+use Rattle.std.specs.Prelude.{◌≡◌, ◌==◌, not, ℕ, ◌+◌, Bool, true, false, Option, Some, None, slice_get}
 use Rattle.mz_tree.specs.Programs.{Program}
 use Rattle.mz_words.specs.declared.code.Act.{Act}
 use Rattle.mz_words.specs.declared.code.Act.TheVariants.{Const, Copy, Arith, New, Branch, Return, Take, NewLock, Spawn}
@@ -17,8 +18,8 @@ use Rattle.mz_words.specs.declared.stages.Stage.{Stage}
 use Rattle.mz_words.specs.declared.stages.Stage.TheVariants.{Ready, Making, Taking, Spawning}
 use Rattle.mz_words.specs.Standing.{Standing}
 use Rattle.mz_words.specs.Steps.{reg, made_words, ask_act}
-use Rattle.mz_words.specs.Raw.{Raw, Event}
-use Rattle.mz_named.specs.Machine.{Config, NStep}
+use Rattle.mz_words.specs.Raw.{Raw, Event, Events, No_events, More_events, completed_at}
+use Rattle.mz_named.specs.Machine.{Cell, Config, NStep}
 
 -- whether a local act gives a named step; a Call without a frame, and what is counted, ends the thread instead
 abbrev pub local_gives : Act → Bool
@@ -55,10 +56,19 @@ gives_step_at c o t stage i answer = false
 abbrev pub gives_step : Code → Options → Raw → ℕ → Answer → Bool
 gives_step c o s k answer = gives_step_at c o (s.thread k) (s.thread k).stage (slice_get c.instrs (s.thread k).at) answer
 
--- a list of events from `first` with the named steps from `start` that they give: each event gives the one step of its
--- thread, or none
-pub data NamedRun (p : Program) (c : Code) (o : Options) (first : Raw) (start : Config) : Raw → Config → Type 0 where
-  At_opening : NamedRun p c o first start first start
-  Without_step : (s s' : Raw) (w : Config) (k : ℕ) (answer : Answer) → NamedRun p c o first start s w → Event c o s k answer s' → gives_step c o s k answer ≡ false → NamedRun p c o first start s' w
-  With_step : (s s' : Raw) (w w' : Config) (k n : ℕ) (answer : Answer) → NamedRun p c o first start s w → Event c o s k answer s' → gives_step c o s k answer ≡ true
-      → slice_get s.born n ≡ Some k → NStep p w n w' → NamedRun p c o first start s' w'
+-- the place and the number of words of the block or lock that this answer to thread k completes, if it completes one
+abbrev pub completed : Code → Raw → ℕ → Answer → Option (ℕ × ℕ)
+completed c s k answer = completed_at (s.thread k).stage (slice_get c.instrs (s.thread k).at) answer
+
+-- what is completed by a step is new by name, and its name is its address
+abbrev pub NamedByAddress : Option (ℕ × ℕ) → Config → Config → Type 0
+NamedByAddress None w w' = Unit {0}
+NamedByAddress (Some made) w w' = (w.heap.at made.0 ≡ None) × (cell : Cell) × (w'.heap.at made.0 ≡ Some cell)
+
+-- the named steps from `start` that a list of events from `first` gives: each event gives the one step of its thread, or none
+pub data NamedRun (p : Program) (c : Code) (o : Options) (first : Raw) (start : Config) : (s : Raw) → Events c o first s → Config → Type 0 where
+  At_opening : NamedRun p c o first start first No_events start
+  Without_step : (s s' : Raw) (w : Config) (k : ℕ) (answer : Answer) (events : Events c o first s) (event : Event c o s k answer s') → NamedRun p c o first start s events w → gives_step c o s k answer ≡ false
+      → NamedRun p c o first start s' (More_events s s' k answer events event) w
+  With_step : (s s' : Raw) (w w' : Config) (k n : ℕ) (answer : Answer) (events : Events c o first s) (event : Event c o s k answer s') → NamedRun p c o first start s events w → gives_step c o s k answer ≡ true
+      → slice_get s.born n ≡ Some k → NStep p w n w' → NamedByAddress (completed c s k answer) w w' → NamedRun p c o first start s' (More_events s s' k answer events event) w'

@@ -108,12 +108,16 @@ pub record StandsBeforeStart (p : Program) (word : ℕ → ℕ) (k : ℕ) (u : T
 abbrev pub IsCut : List Instr → Program → (ℕ → ℕ) → ℕ → Standing → Thread → Type 0
 IsCut code p word k t u = StandsRunning code t u ⊎ StandsBeforeStart p word k u
 
--- what an end says of the named thread: it has ended, it has stopped, or it is cut
+-- what an end says of the named thread: it has ended, it has stopped, or it is cut. A thread that was told to stop or had no
+-- memory may be cut at either place, one that never started before its first frame, and each other one at a command
 abbrev pub EndStands : List Instr → Program → (ℕ → ℕ) → ℕ → Standing → End → Thread → Type 0
 EndStands code p word k t ending.Done u = u ≡ Ended
 EndStands code p word k t (ending.TakeFailed place) u = u ≡ Stopped
 EndStands code p word k t (ending.Arith place) u = u ≡ Stopped
-EndStands code p word k t e u = IsCut code p word k t u
+EndStands code p word k t ending.NeverStarted u = StandsBeforeStart p word k u
+EndStands code p word k t ending.Halted u = IsCut code p word k t u
+EndStands code p word k t ending.Memory u = IsCut code p word k t u
+EndStands code p word k t e u = StandsRunning code t u
 
 -- what each stage says of the named thread
 abbrev pub StageStands : List Instr → Program → (ℕ → ℕ) → ℕ → Standing → Stage → Thread → Type 0

@@ -2,8 +2,10 @@
 ghost use Rattle.std.specs.Prelude.{◌≡◌, ◌++◌, ◌+◌, [], ◌∷◌, length, IfOk, OnOk};
 ghost use Rattle.mz_tree.specs.View.{plain_body, plain_op, plain_commands, plain_command, plain_cases, plain_case};
 ghost use Rattle.mz_tree.specs.Code.{commands_of, cases_of};
-ghost use Rattle.mz_lower.specs.Layout.{lay_body, lay_op, lay_command, lay_commands, lay_cases, lay_branch, cons_in, targets_in, instr, lay_match, size_cases};
+ghost use Rattle.mz_lower.specs.Layout.{lay_body, lay_op, lay_command, lay_commands, lay_cases, lay_branch, cons_in, targets_in, instr, lay_match, size_body, size_cases};
+ghost use Rattle.mz_words.specs.declared.code.Act.TheVariants.{New, Call};
 
+use crate::acts::{arith, branch, constant, give, read, retag, spawn, take, write};
 use crate::counting::{count_body, plus};
 use mz_tree::{Body, Case, Command, Memory, Names, Op, Place};
 use mz_words::{Act, Instr, Instrs};
@@ -58,92 +60,34 @@ fn emit_op(alloc: Global, code: &mut Instrs, to: u32, place: Place, op: &Op) -> 
     ensures { OnOk result (code.new ≡ code.old ++ lay_op (length code.old) to place (plain_op op.now)) }
 {
     match op {
-        Op::Int(value) => put(code, place, Act::Const { to, value: *value }),
-        Op::Unit => put(code, place, Act::Const { to, value: 0 }),
-        Op::Fun(function) => put(
-            code,
-            place,
-            Act::Const {
-                to,
-                value: *function as u64,
-            },
-        ),
+        Op::Int(value) => put(code, place, constant(to, *value)),
+        Op::Unit => put(code, place, constant(to, 0)),
+        Op::Fun(function) => put(code, place, constant(to, *function as u64)),
         Op::Copy(from) => put(code, place, Act::Copy { to, from: *from }),
-        Op::Arith { op, left, right } => put(
-            code,
-            place,
-            Act::Arith {
-                to,
-                op: *op,
-                left: *left,
-                right: *right,
-            },
-        ),
-        Op::New { con, fields } => {
-            let fields = Items::from_slice(alloc, fields.as_slice())?;
-            put(
-                code,
-                place,
-                Act::New {
-                    to,
-                    con: *con,
-                    fields,
-                },
-            )
-        }
-        Op::Read { block, con, field } => put(
-            code,
-            place,
-            Act::Read {
-                to,
-                block: *block,
-                con: *con,
-                field: *field,
-            },
-        ),
+        Op::Arith { op, left, right } => put(code, place, arith(to, *op, *left, *right)),
+        Op::New { con, fields } => emit_new(alloc, code, to, place, *con, fields.as_slice()),
+        Op::Read { block, con, field } => put(code, place, read(to, *block, *con, *field)),
         Op::Write {
             block,
             con,
             field,
             from,
-        } => {
-            put(
-                code,
-                place,
-                Act::Write {
-                    to,
-                    block: *block,
-                    con: *con,
-                    field: *field,
-                    from: *from,
-                },
-            )
-        }
+        } => put(code, place, write(to, *block, *con, *field, *from)),
         Op::Retag {
             block,
             from,
             to: new,
-        } => put(
-            code,
-            place,
-            Act::Retag {
-                to,
-                block: *block,
-                from: *from,
-                con: *new,
-            },
-        ),
+        } => put(code, place, retag(to, *block, *from, *new)),
         Op::If {
             test,
             yes,
             other,
             ..
         } => {
-            let zero = plus(next_number(code)?, plus(count_body(yes)?, 3)?)?;
-            let end = plus(zero, plus(count_body(other)?, 2)?)?;
-            put(code, place, Act::Branch { test: *test, zero })?;
-            emit_branch(alloc, code, to, place, end, yes)?;
-            emit_branch(alloc, code, to, place, end, other)
+            let halves = halves_of(code, yes, other)?;
+            put(code, place, branch(*test, halves.zero))?;
+            emit_branch(alloc, code, to, place, halves.end, yes)?;
+            emit_branch(alloc, code, to, place, halves.end, other)
         }
         Op::Match { block, cases, .. } => emit_match(
             alloc,
@@ -153,50 +97,59 @@ fn emit_op(alloc: Global, code: &mut Instrs, to: u32, place: Place, op: &Op) -> 
             *block,
             cases.as_slice(),
         ),
-        Op::Call { callee, args } => {
-            let args = Items::from_slice(alloc, args.as_slice())?;
-            put(
-                code,
-                place,
-                Act::Call {
-                    to,
-                    callee: *callee,
-                    args,
-                },
-            )
-        }
-        Op::Give { block, adopter } => put(
-            code,
-            place,
-            Act::Give {
-                to,
-                block: *block,
-                adopter: *adopter,
-            },
-        ),
-        Op::Take { block, adopter } => put(
-            code,
-            place,
-            Act::Take {
-                to,
-                block: *block,
-                adopter: *adopter,
-            },
-        ),
+        Op::Call { callee, args } => emit_call(alloc, code, to, place, *callee, args.as_slice()),
+        Op::Give { block, adopter } => put(code, place, give(to, *block, *adopter)),
+        Op::Take { block, adopter } => put(code, place, take(to, *block, *adopter)),
         Op::NewLock(_) => put(code, place, Act::NewLock { to }),
         Op::Acquire(lock) => put(code, place, Act::Acquire { to, lock: *lock }),
         Op::Release(lock) => put(code, place, Act::Release { to, lock: *lock }),
-        Op::Spawn { callee, arg } => put(
-            code,
-            place,
-            Act::Spawn {
-                to,
-                callee: *callee,
-                arg: *arg,
-            },
-        ),
+        Op::Spawn { callee, arg } => put(code, place, spawn(to, *callee, *arg)),
         Op::Print(from) => put(code, place, Act::Print { to, from: *from }),
     }
+}
+
+fn emit_new(
+    alloc: Global,
+    code: &mut Instrs,
+    to: u32,
+    place: Place,
+    con: u32,
+    fields: &[u32],
+) -> Result<(), Memory>
+    ensures { OnOk result (code.new ≡ code.old ++ instr place (New to con fields.now) ∷ []) }
+{
+    let fields = Items::from_slice(alloc, fields)?;
+    put(code, place, Act::New { to, con, fields })
+}
+
+fn emit_call(
+    alloc: Global,
+    code: &mut Instrs,
+    to: u32,
+    place: Place,
+    callee: u32,
+    args: &[u32],
+) -> Result<(), Memory>
+    ensures { OnOk result (code.new ≡ code.old ++ instr place (Call to callee args.now) ∷ []) }
+{
+    let args = Items::from_slice(alloc, args)?;
+    put(code, place, Act::Call { to, callee, args })
+}
+
+// where the branches of an if begin and end: where the second one begins, and where the command ends
+#[derive(Clone, Copy)]
+struct Halves {
+    zero: u32,
+    end: u32,
+}
+
+fn halves_of(code: &Instrs, yes: &Body, other: &Body) -> Result<Halves, Memory>
+    ensures zero { IfOk result (λ h. h.zero ≡ length code.now + (size_body (plain_body yes.now) + 3)) }
+    ensures end { IfOk result (λ h. h.end ≡ h.zero + (size_body (plain_body other.now) + 2)) }
+{
+    let zero = plus(next_number(code)?, plus(count_body(yes)?, 3)?)?;
+    let end = plus(zero, plus(count_body(other)?, 2)?)?;
+    Ok(Halves { zero, end })
 }
 
 #[cycle(bodies)]

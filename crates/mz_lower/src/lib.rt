@@ -1,6 +1,7 @@
 //! Lowering: the code of a program.
 #![tactic(auto)]
 
+mod acts;
 mod counting;
 mod emitting;
 mod laws;

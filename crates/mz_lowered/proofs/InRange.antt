@@ -1,15 +1,17 @@
 -- The names that a program uses, where it was read, are among its registers: so its code is in range.
 use Rattle.std.proofs.Common.{◌≡◌, ◌<◌, ◌≤◌, inl, inr, ℕ, zero, suc, ◌+◌, List, [], ◌∷◌, length, Some, slice_get, codes, refl, sym, ap, ◌∙◌, subst, arith}
 use Rattle.std.specs.Str.{bytes_eq}
-use Rattle.std.proofs.lemmas.Bool.{cases_eq}
+use Rattle.std.proofs.lemmas.Bool.{cases_eq, cases_lt}
+use Rattle.std.proofs.lemmas.List.{length-append}
+use Rattle.std.proofs.lemmas.Option.{slice_get_within}
 use Rattle.mz_tree.specs.Code.{Op, Commands, Cases, Body, Int_op, Unit_op, Fun_op, Copy_op, Arith_op, New_op, Read_op, Write_op, Retag_op, If_op, Match_op, Call_op, Give_op, Take_op, New_lock_op, Acquire_op, Release_op, Spawn_op, Print_op, The_command, No_commands, More_commands, The_case, No_cases, More_cases, The_body, result_of, brace_of}
 use Rattle.mz_tree.specs.Programs.{Sig, Fun, Program}
 use Rattle.mz_words.specs.declared.code.Act.TheVariants.{Return}
 use Rattle.mz_words.specs.declared.code.Instr.{Instr}
 use Rattle.mz_words.specs.declared.code.Start.{Start}
-use Rattle.mz_lower.specs.Layout.{instr, size_body, lay_body, size_fun, params_in, start_of, starts_of, code_of}
+use Rattle.mz_lower.specs.Layout.{instr, size_body, lay_body, size_fun, lay_fun, lay_funs, params_in, start_of, starts_of, code_of}
 use Rattle.mz_lower.specs.Addresses.{HasAt}
-use Rattle.mz_lower.specs.InRange.{RegistersBelow, ActInRange, AllInRange, FunctionInRange, CodeInRange}
+use Rattle.mz_words.specs.InRange.{RegistersBelow, ActInRange, AllInRange, FunctionInRange, IsInFunction, CodeInRange}
 use Rattle.mz_lower.proofs.Addresses.{some_inj, none_some, has_front, has_back, long_body, FunPlace, fun_place}
 use Rattle.mz_lowered.proofs.Lowerable.{lowerable, some_of}
 use Rattle.mz_lower.proofs.BodiesInRange.{BodyFits, CommandsFit, OpFits, CasesFit, value_fits, body_range}
@@ -100,33 +102,75 @@ main_entry p s =
     let q = fun_place p m.0 m.1 m.2 in
     (start_of p.sigs q.first m.1, subst (λ k. slice_get (code_of p).entries k ≡ Some (start_of p.sigs q.first m.1)) able.0 q.found, ap params_in able.2 ∙ able.3)
 
+-- the code of a function of a program that was read is in range
+abbrev of_fun : (p : Program) (s : Scoped p) (k : ℕ) (f : Fun) → slice_get p.funs k ≡ Some f → (q : FunPlace (code_of p).instrs (code_of p).entries p.sigs k f) → FunctionInRange (code_of p) k (start_of p.sigs q.first f)
+of_fun p s k f e q =
+    let z = s.funs k f e in
+    let long' = z.spelled in
+    let up = body_up p z.sig.count f.body in
+    let body = body_fits p s f.spelling (length f.spelling) (names_below z.sig.count) z.sig.count f.body (first_below z.sig.count) (omega arith) z.body in
+    record {
+      last = q.first + size_body f.body;
+      goes = omega arith;
+      source = result_of f.body;
+      place = brace_of f.body;
+      returns = (has_back (code_of p).instrs q.first (size_body f.body) (lay_body q.first f.body) (instr (brace_of f.body) (Return (result_of f.body)) ∷ []) (long_body q.first f.body) q.stands).0;
+      apart = λ next g. (let behind : next.first ≡ q.first + (size_body f.body + 1) =
+          starts_next p.sigs 0 p.funs k (start_of p.sigs q.first f) next f q.found (subst (λ m. slice_get (code_of p).entries m ≡ Some next) (omega arith) g) e in omega (arith, behind));
+      each = λ address i l m h. in_list (code_of p).instrs (length f.spelling) (q.first + size_body f.body) q.first (lay_body q.first f.body)
+          (has_front (code_of p).instrs q.first (lay_body q.first f.body) (instr (brace_of f.body) (Return (result_of f.body)) ∷ []) q.stands)
+          (body_range (length f.spelling) q.first (q.first + size_body f.body) f.body body (omega arith)) address i l (omega (arith, m, long_body q.first f.body)) h;
+      value = value_fits (length f.spelling) f.body body;
+      room = subst (λ x. x ≤ length f.spelling) (sym (ap params_in z.signed)) (omega arith);
+    }
+
+-- the function to which an instruction belongs, and where it begins
+record Located (sigs : List Sig) (address : ℕ) (funs : List Fun) (q : ℕ) : Type 0 where
+  k : ℕ
+  fun : Fun
+  found : slice_get funs k ≡ Some fun
+  first : ℕ
+  start : slice_get (starts_of sigs address funs) k ≡ Some (start_of sigs first fun)
+  behind : first ≤ q
+  within : q < first + size_fun fun
+
+long_fun : (address : ℕ) (f : Fun) → length (lay_fun address f) ≡ size_fun f
+long_fun address f = length-append (lay_body address f.body) (instr (brace_of f.body) (Return (result_of f.body)) ∷ []) ∙ ap (λ n. n + 1) (long_body address f.body)
+
+locate : (sigs : List Sig) (address : ℕ) (funs : List Fun) (q : ℕ) → address ≤ q → q < address + length (lay_funs address funs) → Located sigs address funs q
+locate sigs address [] q h l = absurd (omega (arith, h, l))
+locate sigs address (f ∷ funs) q h l = elim (cases_lt q (address + size_fun f)) [
+  | inl here ↦ record { k = 0; fun = f; found = refl; first = address; start = refl; behind = h; within = here }
+  | inr later ↦ (let long = length-append (lay_fun address f) (lay_funs (address + size_fun f) funs) in
+      let size = long_fun address f in
+      let r = locate sigs (address + size_fun f) funs q later (omega (arith, l, long, size)) in
+      record { k = suc r.k; fun = r.fun; found = r.found; first = r.first; start = r.start; behind = r.behind; within = r.within })
+]
+
+-- each instruction is one of a function
+in_function : (p : Program) → Scoped p → (address : ℕ) (i : Instr) → slice_get (code_of p).instrs address ≡ Some i → IsInFunction (code_of p) address
+in_function p s address i e =
+    let l = slice_get_within (code_of p).instrs address i e in
+    let r = locate p.sigs 0 p.funs address (omega arith) (omega (arith, l)) in
+    let q = fun_place p r.k r.fun r.found in
+    let same : q.first ≡ r.first = ap (λ (x : Start). x.first) (some_inj (sym q.found ∙ r.start)) in
+    let behind = r.behind in
+    let within = r.within in
+    record {
+      f = r.k;
+      start = start_of p.sigs q.first r.fun;
+      found = q.found;
+      range = of_fun p s r.k r.fun r.found q;
+      behind = omega (arith, same, behind);
+      within = omega (arith, same, within);
+    }
+
 -- the code of a program that was read is in range
 pub code_range : (p : Program) → Scoped p → CodeInRange (code_of p)
-code_range p s = let m = main_entry p s in record { functions = at_entry; main = m.0; begins = m.1; no_params = m.2 }
+code_range p s = let m = main_entry p s in record { functions = at_entry; main = m.0; begins = m.1; no_params = m.2; covered = in_function p s }
   where
-    of_fun : (k : ℕ) (f : Fun) → slice_get p.funs k ≡ Some f → (q : FunPlace (code_of p).instrs (code_of p).entries p.sigs k f) → FunctionInRange (code_of p) k (start_of p.sigs q.first f)
-    of_fun k f e q =
-        let z = s.funs k f e in
-        let long' = z.spelled in
-        let up = body_up p z.sig.count f.body in
-        let body = body_fits p s f.spelling (length f.spelling) (names_below z.sig.count) z.sig.count f.body (first_below z.sig.count) (omega arith) z.body in
-        record {
-          last = q.first + size_body f.body;
-          goes = omega arith;
-          source = result_of f.body;
-          place = brace_of f.body;
-          returns = (has_back (code_of p).instrs q.first (size_body f.body) (lay_body q.first f.body) (instr (brace_of f.body) (Return (result_of f.body)) ∷ []) (long_body q.first f.body) q.stands).0;
-          apart = λ next g. (let behind : next.first ≡ q.first + (size_body f.body + 1) =
-              starts_next p.sigs 0 p.funs k (start_of p.sigs q.first f) next f q.found (subst (λ m. slice_get (code_of p).entries m ≡ Some next) (omega arith) g) e in omega (arith, behind));
-          each = λ address i l m h. in_list (code_of p).instrs (length f.spelling) (q.first + size_body f.body) q.first (lay_body q.first f.body)
-              (has_front (code_of p).instrs q.first (lay_body q.first f.body) (instr (brace_of f.body) (Return (result_of f.body)) ∷ []) q.stands)
-              (body_range (length f.spelling) q.first (q.first + size_body f.body) f.body body (omega arith)) address i l (omega (arith, m, long_body q.first f.body)) h;
-          value = value_fits (length f.spelling) f.body body;
-          room = subst (λ x. x ≤ length f.spelling) (sym (ap params_in z.signed)) (omega arith);
-        }
-
     at_entry : (f : ℕ) (x : Start) → slice_get (code_of p).entries f ≡ Some x → FunctionInRange (code_of p) f x
     at_entry f x e =
         let g = entry_fun p.sigs 0 p.funs f x e in
         let q = fun_place p f g.0 g.1 in
-        subst (λ (y : Start). FunctionInRange (code_of p) f y) (some_inj (sym q.found ∙ e)) (of_fun f g.0 g.1 q)
+        subst (λ (y : Start). FunctionInRange (code_of p) f y) (some_inj (sym q.found ∙ e)) (of_fun p s f g.0 g.1 q)

@@ -1,6 +1,7 @@
 -- A thread and its answer determine the event: the state behind it is computed.
-use Rattle.std.proofs.Common.{◌≡◌, ◌<◌, ◌==◌, ℕ, ◌++◌, Option, Some, None, Bool, true, false, refl, sym, ap, subst, eq-eqb, ne_eqb}
+use Rattle.std.proofs.Common.{◌≡◌, ◌<◌, ◌==◌, ℕ, List, [], ◌∷◌, ◌++◌, Option, Some, None, Bool, true, false, refl, sym, ap, ◌∙◌, subst, eq-eqb, ne_eqb, append_assoc}
 use Rattle.std.specs.Prelude.{slice_get, if◌then◌else◌}
+use Rattle.mz_tape.specs.declared.entry.Entry.{Entry}
 use Rattle.mz_words.specs.declared.code.Code.{Code}
 use Rattle.mz_words.specs.declared.options.Options.{Options}
 use Rattle.mz_words.specs.declared.asks.Ask.{Ask}
@@ -9,6 +10,8 @@ use Rattle.mz_words.specs.declared.asks.Answer.TheVariants.{Saw, Quiet, Missed, 
 use Rattle.mz_words.specs.Steps.{ask, take_step}
 use Rattle.mz_words.specs.Answers.{May, Agrees, Move, moved, move_of, AgreesBy, HasSeen, word_then, word_after}
 use Rattle.mz_words.specs.Raw.{Raw, Event, Events, No_events, More_events, completed_at, blocks_then, born_at, printed}
+use Rattle.mz_words.specs.Replays.{entries}
+use Rattle.mz_words.specs.Histories.{history}
 
 -- the state after an answer
 abbrev pub next_raw : Code → Options → Raw → ℕ → Answer → Raw
@@ -38,10 +41,21 @@ next_event c o s k answer number may agrees = record {
   prints = refl;
 }
 
+pub nil_right : (xs : List Entry) → xs ++ [] ≡ xs
+nil_right [] = refl
+nil_right (x ∷ xs) = ap (λ l. x ∷ l) (nil_right xs)
+
 -- one list of events behind another
 pub after : {c : Code} {o : Options} {first mid last : Raw} → Events c o first mid → Events c o mid last → Events c o first last
 after p No_events = p
 after p (More_events s s' k answer q e) = More_events s s' k answer (after p q) e
+
+-- it makes the entries of the one and then those of the other
+pub made_after : {c : Code} {o : Options} {first mid last : Raw} (p : Events c o first mid) (q : Events c o mid last) → history (after p q) ≡ history p ++ history q
+unfolding after
+made_after p No_events = sym (nil_right (history p))
+made_after {c} {o} p (More_events s s' k answer q e) =
+    ap (λ (l : List Entry). l ++ entries k (ask c o k (s.thread k)) answer) (made_after p q) ∙ append_assoc (history p) (history q) (entries k (ask c o k (s.thread k)) answer)
 
 -- ---- words that are the same at each place
 

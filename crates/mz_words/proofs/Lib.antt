@@ -1,6 +1,13 @@
+pub mod Lists
 pub mod Events
-pub mod Turning
 pub mod Replaying
 pub mod Weaving
+pub mod Joining
+pub mod Turning
+pub mod Reporting
+pub mod Storing
 pub mod Opened
 pub mod Others
+pub mod Moving
+pub mod Ticketing
+pub mod Printing

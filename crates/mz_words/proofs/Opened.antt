@@ -23,7 +23,7 @@ past_header main p h =
     ∙ elsewhere p 5 (λ e. omega (arith, h, e)) 1 (if p == 6 then main else 0)
     ∙ elsewhere p 6 (λ e. omega (arith, h, e)) main 0
 
-opened : (size main p : ℕ) → word_in (first_words size main) p ≡ opening_word main p
+pub opened : (size main p : ℕ) → word_in (first_words size main) p ≡ opening_word main p
 opened size main zero = refl
 opened size main (suc zero) = refl
 opened size main (suc (suc zero)) = refl

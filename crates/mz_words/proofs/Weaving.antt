@@ -3,6 +3,7 @@
 use Rattle.std.proofs.Common.{◌≡◌, ◌≢◌, ◌<◌, ◌≤◌, ◌==◌, inl, inr, ℕ, zero, suc, List, [], ◌∷◌, ◌++◌, Option, Some, None, true, false, refl, sym, ap, ◌∙◌, subst, eq-eqb, ne_eqb, append_assoc, arith}
 use Rattle.std.proofs.lemmas.Bool.{cases_eq}
 use Rattle.mz_tape.specs.declared.entry.Entry.{Entry}
+use Rattle.mz_words.specs.declared.words.Note.{Note}
 use Rattle.mz_words.specs.declared.code.Code.{Code}
 use Rattle.mz_words.specs.declared.options.Options.{Options}
 use Rattle.mz_words.specs.declared.asks.Ask.{Ask}
@@ -13,19 +14,16 @@ use Rattle.mz_words.specs.Steps.{ask, take_step, opening}
 use Rattle.mz_words.specs.Answers.{May, Agrees, Move, moved, move_of, AgreesBy, HasSeen, word_then}
 use Rattle.mz_words.specs.Raw.{Raw, Events, No_events, More_events}
 use Rattle.mz_words.specs.Replays.{Follows, Follows_start, Follows_on, entries, entry_of}
-use Rattle.mz_words.specs.Interleavings.{part_of, step_of, FewActors, AllAgree, words_after}
+use Rattle.mz_words.specs.Histories.{history}
+use Rattle.mz_words.specs.Interleavings.{part_of, step_of, FewActors, AllAgree, words_after, IsNoted}
 use Rattle.mz_words.specs.Laws.{RecordsAreRuns}
-use Rattle.mz_words.proofs.Events.{next_raw, next_event, if_is, words_same, after}
+use Rattle.mz_words.proofs.Events.{next_raw, next_event, if_is, words_same, after, made_after, nil_right}
 
 module _ (c : Code) (o : Options) where
   -- a replay from where a thread stands: what is left of its record, and where that leads
   pub data Rest (k : ℕ) (t2 : Standing) : Standing → List Entry → Type 0 where
     rest_none : Rest k t2 t2 []
     rest_step : (t : Standing) (answer : Answer) (part whole : List Entry) → May (ask c o k t) answer → whole ≡ entries k (ask c o k t) answer ++ part → Rest k t2 (take_step c o k t answer) part → Rest k t2 t whole
-
-  nil_right : (xs : List Entry) → xs ++ [] ≡ xs
-  nil_right [] = refl
-  nil_right (x ∷ xs) = ap (λ l. x ∷ l) (nil_right xs)
 
   -- one more event at the end
   rest_more : (k : ℕ) (t1 t : Standing) (part : List Entry) (answer : Answer) → Rest k t1 t part → May (ask c o k t1) answer → Rest k (take_step c o k t1 answer) t (part ++ entries k (ask c o k t1) answer)
@@ -80,6 +78,7 @@ module _ (c : Code) (o : Options) where
   pub record Went (first : Raw) (k : ℕ) (f : ℕ → ℕ) (t : Standing) : Type 0 where
     pub state : Raw
     pub events : Events c o first state
+    pub made : history events ≡ []
     pub words : (q : ℕ) → state.word q ≡ f q
     pub mine : state.thread k ≡ t
     pub others : (j : ℕ) → j ≢ k → state.thread j ≡ first.thread j
@@ -90,33 +89,51 @@ module _ (c : Code) (o : Options) where
   silent_agrees a Missed f e = tt
   silent_agrees a Refused f e = tt
 
+  silent_entries : (k : ℕ) (a : Ask) (answer : Answer) → moved a answer ≡ None → entries k a answer ≡ []
+  silent_entries k a (Saw n) e = ap (λ (x : Option Move). entry_of k x n) e
+  silent_entries k a Quiet e = refl
+  silent_entries k a Missed e = refl
+  silent_entries k a Refused e = refl
+
   pub go_silent : (k : ℕ) → k < 64 → (u : Standing) (s : Raw) (t : Standing) → Silent k u t → s.thread k ≡ t → Went s k s.word u
-  go_silent k number u s _ silent_none e = record { state = s; events = No_events; words = λ q. refl; mine = e; others = λ j d. refl }
+  go_silent k number u s _ silent_none e = record { state = s; events = No_events; made = refl; words = λ q. refl; mine = e; others = λ j d. refl }
   go_silent k number u s _ (silent_one t answer m none r) e =
       let m' = subst (λ (x : Standing). May (ask c o k x) answer) (sym e) m in
       let none' = subst (λ (x : Standing). moved (ask c o k x) answer ≡ None) (sym e) none in
       let s1 = next_raw c o s k answer in
+      let one : Events c o s s1 = More_events s s1 k answer No_events (next_event c o s k answer number m' (silent_agrees (ask c o k (s.thread k)) answer s.word none')) in
       let z = go_silent k number u s1 (take_step c o k t answer) r (if_is (k == k) true (eq-eqb k k refl) (take_step c o k (s.thread k) answer) (s.thread k) ∙ ap (λ (x : Standing). take_step c o k x answer) e) in
       record {
         state = z.state;
-        events = after (More_events s s1 k answer No_events (next_event c o s k answer number m' (silent_agrees (ask c o k (s.thread k)) answer s.word none'))) z.events;
+        events = after one z.events;
+        made = made_after one z.events ∙ ap (λ (l : List Entry). l ++ history z.events) (silent_entries k (ask c o k (s.thread k)) answer none') ∙ z.made;
         words = λ q. z.words q ∙ ap (λ (x : Option Move). word_then x s.word q) none';
         mine = z.mine;
         others = λ j d. z.others j d ∙ if_is (j == k) false (ne_eqb j k d) (take_step c o k (s.thread k) answer) (s.thread j);
       }
 
-  all_on : (f g : ℕ → ℕ) (es : List Entry) → ((q : ℕ) → g q ≡ f q) → AllAgree f es → AllAgree g es
+  pub all_on : (f g : ℕ → ℕ) (es : List Entry) → ((q : ℕ) → g q ≡ f q) → AllAgree f es → AllAgree g es
   all_on f g [] h a = tt
-  all_on f g (e ∷ es) h a = (subst (λ x. HasSeen e.kind e.seen x) (sym (h e.place)) a.0, all_on (word_then (Some (step_of e)) f) (word_then (Some (step_of e)) g) es (words_same (Some (step_of e)) f g h) a.1)
+  all_on f g (e ∷ es) h a = (a.0, subst (λ x. HasSeen e.kind e.seen x) (sym (h e.place)) a.1, all_on (word_then (Some (step_of e)) f) (word_then (Some (step_of e)) g) es (words_same (Some (step_of e)) f g h) a.2)
 
-  after_same : (f g : ℕ → ℕ) (es : List Entry) → ((q : ℕ) → g q ≡ f q) → (q : ℕ) → words_after g es q ≡ words_after f es q
+  pub after_same : (f g : ℕ → ℕ) (es : List Entry) → ((q : ℕ) → g q ≡ f q) → (q : ℕ) → words_after g es q ≡ words_after f es q
   after_same f g [] h q = h q
   after_same f g (e ∷ es) h q = after_same (word_then (Some (step_of e)) f) (word_then (Some (step_of e)) g) es (words_same (Some (step_of e)) f g h) q
 
+  pub noted_on : (f g : ℕ → ℕ) (h : List Entry) (k : ℕ) (note : Note) → ((q : ℕ) → g q ≡ f q) → IsNoted f h k note → IsNoted g h k note
+  noted_on f g h k note same n = record {
+    front = n.front;
+    after = n.after;
+    cut = n.cut;
+    made = n.made;
+    held = λ z. n.held (sym (after_same f g n.front same note.place) ∙ z);
+  }
+
   -- the records of all threads, woven by one list
-  pub record Woven (first : Raw) (ends : ℕ → Standing) (word : ℕ → ℕ) : Type 0 where
+  pub record Woven (first : Raw) (h : List Entry) (ends : ℕ → Standing) (word : ℕ → ℕ) : Type 0 where
     pub state : Raw
     pub events : Events c o first state
+    pub made : history events ≡ h
     pub words : (q : ℕ) → state.word q ≡ word q
     pub rests : (k : ℕ) → Rest k (ends k) (state.thread k) []
 
@@ -134,6 +151,7 @@ module _ (c : Code) (o : Options) where
   pub record Made (first : Raw) (ends : ℕ → Standing) (e : Entry) (h : List Entry) : Type 0 where
     pub state : Raw
     pub events : Events c o first state
+    pub made : history events ≡ e ∷ []
     pub words : (q : ℕ) → state.word q ≡ word_then (Some (step_of e)) first.word q
     pub rests : (k : ℕ) → Rest k (ends k) (state.thread k) (part_of k h)
 
@@ -149,18 +167,20 @@ module _ (c : Code) (o : Options) where
       record {
         state = next_raw c o z.state k (Saw sp.n);
         events = More_events z.state (next_raw c o z.state k (Saw sp.n)) k (Saw sp.n) z.events event;
+        made = ap (λ (l : List Entry). l ++ entries k (ask c o k (z.state.thread k)) (Saw sp.n)) z.made ∙ ap (λ (x : Option Move). entry_of k x sp.n) moves ∙ ap (λ (x : Entry). x ∷ []) sp.is;
         words = λ q. ap (λ (x : Option Move). word_then x z.state.word q) moves ∙ words_same (Some sp.m) s.word z.state.word z.words q ∙ ap (λ (x : Entry). word_then (Some (step_of x)) s.word q) sp.is;
         rests = λ j. next_rest k sp.u sp.n z.state s j (ends j) h e refl z.mine (λ d. z.others j d) (rests j) (λ q. subst (λ x. Rest x (ends x) (take_step c o x sp.u (Saw sp.n)) (part_of x h)) (sym q) sp.left);
       }
 
-  pub weave : (h : List Entry) (s : Raw) (ends : ℕ → Standing) → ((k : ℕ) → Rest k (ends k) (s.thread k) (part_of k h)) → FewActors h → AllAgree s.word h → Woven s ends (words_after s.word h)
-  weave [] s ends rests few a = record { state = s; events = No_events; words = λ q. refl; rests = rests }
+  pub weave : (h : List Entry) (s : Raw) (ends : ℕ → Standing) → ((k : ℕ) → Rest k (ends k) (s.thread k) (part_of k h)) → FewActors h → AllAgree s.word h → Woven s h ends (words_after s.word h)
+  weave [] s ends rests few a = record { state = s; events = No_events; made = refl; words = λ q. refl; rests = rests }
   weave (e ∷ h) s ends rests few a =
-      let m : Made s ends e h = make e h s ends rests few.0 a.0 in
-      let w : Woven m.state ends (words_after m.state.word h) = weave h m.state ends m.rests few.1 (all_on (word_then (Some (step_of e)) s.word) m.state.word h m.words a.1) in
+      let m : Made s ends e h = make e h s ends rests few.0 a.1 in
+      let w : Woven m.state h ends (words_after m.state.word h) = weave h m.state ends m.rests few.1 (all_on (word_then (Some (step_of e)) s.word) m.state.word h m.words a.2) in
       record {
         state = w.state;
         events = after m.events w.events;
+        made = made_after m.events w.events ∙ ap (λ (l : List Entry). l ++ history w.events) m.made ∙ ap (λ (l : List Entry). e ∷ l) w.made;
         words = λ q. w.words q ∙ after_same (word_then (Some (step_of e)) s.word) m.state.word h m.words q;
         rests = w.rests;
       }
@@ -185,18 +205,20 @@ module _ (c : Code) (o : Options) where
   pub record Ended (first : Raw) (ends : ℕ → Standing) (n : ℕ) : Type 0 where
     pub state : Raw
     pub events : Events c o first state
+    pub made : history events ≡ []
     pub words : (q : ℕ) → state.word q ≡ first.word q
     pub ended : (k : ℕ) → k < n → state.thread k ≡ ends k
     pub rests : (k : ℕ) → n ≤ k → Rest k (ends k) (state.thread k) []
 
   pub end_all : (s : Raw) (ends : ℕ → Standing) → ((k : ℕ) → Rest k (ends k) (s.thread k) []) → (n : ℕ) → n ≤ 64 → Ended s ends n
-  end_all s ends rests zero l = record { state = s; events = No_events; words = λ q. refl; ended = λ k h. absurd (omega (arith, h)); rests = λ k h. rests k }
+  end_all s ends rests zero l = record { state = s; events = No_events; made = refl; words = λ q. refl; ended = λ k h. absurd (omega (arith, h)); rests = λ k h. rests k }
   end_all s ends rests (suc n) l =
       let z = end_all s ends rests n (omega (arith, l)) in
       let w = go_silent n (omega (arith, l)) (ends n) z.state (z.state.thread n) (silent_of n (ends n) (z.state.thread n) [] (z.rests n (omega arith)) refl) refl in
       record {
         state = w.state;
         events = after z.events w.events;
+        made = made_after z.events w.events ∙ ap (λ (l : List Entry). l ++ history w.events) z.made ∙ w.made;
         words = λ q. w.words q ∙ z.words q;
         ended = λ k h. elim (cases_eq k n) [
           | inl q ↦ subst (λ x. w.state.thread x ≡ ends x) (sym q) w.mine
@@ -211,4 +233,4 @@ woven c o s h parts notes word ends opens q follows =
     (rest_of c o k (part_of k h) (ends k) (subst (λ (l : List Entry). Follows c o k l (ends k)) (sym (q.each_part k)) (follows k))) in
     let z = weave c o h s ends rests q.actors q.agree in
     let w = end_all c o z.state ends z.rests 64 (omega arith) in
-    (w.state, record { events = after z.events w.events; ended = w.ended; words = λ p. w.words p ∙ z.words p ∙ q.closing p })
+    (w.state, record { events = after z.events w.events; made = made_after z.events w.events ∙ ap (λ (l : List Entry). l ++ history w.events) z.made ∙ ap (λ (l : List Entry). h ++ l) w.made ∙ nil_right h; ended = w.ended; words = λ p. w.words p ∙ z.words p ∙ q.closing p })

@@ -3,7 +3,7 @@
 -- A fault is an act at a word that isn't one of a complete block of the right shape, a switch without a case, or a call of
 -- what is no function. A race is two threads at one tag or field, of which one stores. Adopters, locks and the header are
 -- shared: there two threads may meet.
-use Rattle.std.specs.Prelude.{◌≡◌, ◌≢◌, ◌⊎◌, ℕ, ◌+◌, ◌<◌, length, Some, slice_get}
+use Rattle.std.specs.Prelude.{◌≡◌, ◌≢◌, ◌⊎◌, ℕ, ◌+◌, ◌<◌, ◌≤◌, length, Some, slice_get}
 use Rattle.mz_words.specs.declared.code.Act.{Act}
 use Rattle.mz_words.specs.declared.code.Act.TheVariants.{Read, Write, Retag, Switch, Call, Give, Take, Acquire, Release, Spawn}
 use Rattle.mz_words.specs.declared.code.Instr.{Instr}
@@ -15,7 +15,7 @@ use Rattle.mz_words.specs.declared.asks.Ask.TheVariants.{Nothing}
 use Rattle.mz_words.specs.declared.stages.Stage.{Stage}
 use Rattle.mz_words.specs.declared.stages.Stage.TheVariants.{Border, Ready, Making, Taking, Spawning, Over}
 use Rattle.mz_words.specs.Standing.{Standing}
-use Rattle.mz_words.specs.Steps.{reg, callee_of, case_at, ask}
+use Rattle.mz_words.specs.Steps.{reg, callee_of, case_at, made_words, ask}
 use Rattle.mz_tape.specs.declared.entry.Kind.TheVariants.{Store}
 use Rattle.mz_words.specs.Answers.{Move, move_of}
 use Rattle.mz_words.specs.Raw.{Raw}
@@ -67,8 +67,11 @@ pub record NoFault (c : Code) (o : Options) (s : Raw) : Type 0 where
   pub acts : (k : ℕ) → IsAtInstruction (s.thread k).stage → IsSound c s (s.thread k)
   -- whoever asks nothing is over: no place is outside the words, and no step is missing
   pub asks : (k : ℕ) → ask c o k (s.thread k) ≡ Nothing → (e : End) × ((s.thread k).stage ≡ Over e)
-  -- each word of a complete block is inside the heap
+  -- each word of a complete block is inside the heap, and behind the header
   pub inside : (b n i : ℕ) → s.blocks b ≡ Some n → i < n → b + i < o.heap
+  pub behind : (b n i : ℕ) → s.blocks b ≡ Some n → i < n → 197 ≤ b + i
+  -- so is the next word of a block that is being made
+  pub making : (k base i : ℕ) → (s.thread k).stage ≡ Making base i → 197 ≤ base + i
 
 -- ---- where the next steps of two threads may meet, one of them a store
 
@@ -81,3 +84,5 @@ pub record NoRace (c : Code) (o : Options) (s : Raw) : Type 0 where
   pub meet : (j k : ℕ) → j < 64 → k < 64 → j ≢ k → (m n : Move) → move_of (ask c o j (s.thread j)) ≡ Some m → move_of (ask c o k (s.thread k)) ≡ Some n → m.place ≡ n.place → m.kind ≡ Store → MayMeet s m.place
   -- so no two meet at the tag word or at a field word of a complete block
   pub apart : (b i : ℕ) (q : HasBlock s b) → i < q.fields + 2 → i ≢ 1 → MayMeet s (b + i) → ⊥
+  -- nor at a word of a block that is being made
+  pub half_made : (k base i j : ℕ) (instr : Instr) → (s.thread k).stage ≡ Making base i → slice_get c.instrs (s.thread k).at ≡ Some instr → j < made_words instr.act → MayMeet s (base + j) → ⊥

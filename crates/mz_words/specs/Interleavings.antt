@@ -1,6 +1,8 @@
 -- Interleavings: one list of the entries of all threads, which replays from the words at the opening.
 use Rattle.std.specs.Prelude.{◌≡◌, ◌≢◌, ◌<◌, ◌==◌, if◌then◌else◌, ℕ, List, [], ◌∷◌, ◌++◌, length, Option, Some}
 use Rattle.mz_tape.specs.declared.entry.Entry.{Entry}
+use Rattle.mz_tape.specs.declared.entry.Kind.{Kind}
+use Rattle.mz_tape.specs.declared.entry.Kind.TheVariants.{Print}
 use Rattle.mz_words.specs.declared.words.Note.{Note}
 use Rattle.mz_words.specs.Answers.{Move, HasSeen, word_then}
 
@@ -18,10 +20,15 @@ abbrev pub FewActors : List Entry → Type 0
 FewActors [] = Unit {0}
 FewActors (e ∷ es) = (e.actor < 64) × FewActors es
 
--- each entry saw what the words hold at its turn
+-- the word on which a step of this kind may be: a print is a step on the word of the tickets
+abbrev pub IsAt : Kind → ℕ → Type 0
+IsAt Print place = place ≡ 4
+IsAt _ place = Unit {0}
+
+-- each entry is a step on a word of its kind, and saw what the words hold at its turn
 abbrev pub AllAgree : (ℕ → ℕ) → List Entry → Type 0
 AllAgree word [] = Unit {0}
-AllAgree word (e ∷ es) = HasSeen e.kind e.seen (word e.place) × AllAgree (word_then (Some (step_of e)) word) es
+AllAgree word (e ∷ es) = IsAt e.kind e.place × HasSeen e.kind e.seen (word e.place) × AllAgree (word_then (Some (step_of e)) word) es
 
 -- the word at a place after all entries
 abbrev pub words_after : (ℕ → ℕ) → List Entry → ℕ → ℕ

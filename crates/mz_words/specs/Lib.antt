@@ -3,10 +3,16 @@ pub mod Steps
 pub mod Answers
 pub mod Raw
 pub mod Faults
+pub mod InRange
+pub mod Tame
+pub mod Limits
 pub mod Views
 pub mod FirstWords
 pub mod Plain
 pub mod Replays
+pub mod Histories
 pub mod Interleavings
+pub mod Ran
 pub mod Turns
+pub mod Tickets
 pub mod Laws

@@ -2,8 +2,9 @@
 --
 -- A thread stands at a stage. At `Border` it is before an instruction and looks whether it has to stop; at `Ready` it is at
 -- the instruction's first step, and where the instruction has more steps a stage of its own counts them. An instruction's
--- ask doesn't depend on the words, so a try that failed is asked again behind another look. A state that no run reaches
--- asks nothing, and an answer that its ask can't get leaves a thread where it is.
+-- ask doesn't depend on the words, so a try that failed is asked again behind another look. A thread that is over asks nothing;
+-- so does one whose next act is wild, at which no run of sound code arrives. An answer that its ask can't get leaves a thread
+-- where it is.
 --
 -- The words below 197 are a header: 0 the next free word, 1 the next thread number, 2 how many threads are alive, 3 whether
 -- all have to stop, 4 the next ticket; and of thread k 5 + 3k whether it may start, 6 + 3k its function and 7 + 3k its
@@ -255,7 +256,7 @@ abbrev pub switched : Option ℕ → Standing → Standing
 switched None t = unit_at Unmatched t
 switched (Some target) t = goes_to target (unit_at Border t)
 
--- what an instruction does with what its first step HasSeen
+-- what an instruction does with what its first step saw
 abbrev pub take_saw : Options → Place → Standing → Act → ℕ → Standing
 take_saw o place t (New to con fields) n = if leb (n + (length fields + 2)) o.heap then unit_at (Making n 0) t else stop (ending.HeapFull place) (unit_at Ready t)
 take_saw o place t (NewLock to) n = if leb (n + 1) o.heap then unit_at (Making n 0) t else stop (ending.HeapFull place) (unit_at Ready t)

@@ -1,9 +1,10 @@
-use Rattle.std.proofs.Common.{◌≡◌, ◌++◌, ◌+◌, List, [], ◌∷◌, length, OnOk, sym, ap, ◌∙◌, subst}
+use Rattle.std.proofs.Common.{◌≡◌, ◌++◌, List, [], ◌∷◌, length, OnOk, sym, ap, ◌∙◌, subst}
 use Rattle.mz_tree.specs.View.{plain_body, plain_op, plain_command, plain_commands, plain_case, plain_cases, plain_atoms}
 use Rattle.mz_tree.specs.Code.{commands_of, cases_of}
 use Rattle.mz_tree.specs.declared.code.Case.{Case as CodeCase, out-Case}
 use Rattle.mz_tree.proofs.CodeViews.{plain_body_is, plain_match, plain_case_is, result_of_body}
 use Rattle.mz_words.specs.declared.code.Instr.{Instr}
+use Rattle.mz_words.specs.declared.code.Act.{Act}
 use Rattle.mz_words.specs.declared.code.Act.TheVariants.{Copy, Jump}
 use Rattle.mz_lower.specs.Layout.{lay_body, lay_op, lay_commands, lay_cases, lay_branch, lay_match, lay_case, instr}
 use Rattle.mz_lower.proofs.Emitted.{next_of, on_ok, branch_laid, command_laid, case_laid, if_laid}
@@ -38,10 +39,9 @@ emit_commands-loop-i-preserved t c =
 
 pub emit_op-returns-in_ok-emit_branch-in-If : goal.emit_op-returns-in_ok-emit_branch-in-If
 emit_op-returns-in_ok-emit_branch-in-If t c = on_ok c.emit_branch-in-If.result _ _
-    (λ e. if_laid c.args.code.now _ _ _ c.args.to c.in-If.test c.in_ok-zero-in-If.zero c.in_ok-end-in-If.end c.args.place (plain_body c.in-If.yes) (plain_body c.in-If.other) (plain_atoms c.in-If.giving)
-    (c.in_ok-zero-in-If.ensures ∙ ap (λ n. n + c.in_ok-plus-in-If.field-0) c.in_ok-next_number-in-If.ensures ∙ ap (λ n. length c.args.code.now + n) (c.in_ok-plus-in-If.ensures ∙ ap (λ n. n + 3) c.in_ok-count_body-in-If.ensures))
-    (c.in_ok-end-in-If.ensures ∙ ap (λ n. c.in_ok-zero-in-If.zero + n) (c.in_ok-plus-in-If-2.ensures ∙ ap (λ n. n + 2) c.in_ok-count_body-in-If-2.ensures))
-    c.in_ok-put-in-If.ensures c.in_ok-emit_branch-in-If.ensures e
+    (λ e. if_laid c.args.code.now _ _ _ c.args.to c.in-If.test c.in_ok-halves-in-If.halves.zero c.in_ok-halves-in-If.halves.end c.args.place (plain_body c.in-If.yes) (plain_body c.in-If.other) (plain_atoms c.in-If.giving)
+    c.in_ok-halves-in-If.ensures.zero c.in_ok-halves-in-If.ensures.end
+    (c.in_ok-put-in-If.ensures ∙ ap (λ (a : Act). c.args.code.now ++ instr c.args.place a ∷ []) c.branch-test.ensures) c.in_ok-emit_branch-in-If.ensures e
     ∙ sym (ap (λ op. c.args.code.now ++ lay_op (length c.args.code.now) c.args.to c.args.place (plain_op op)) c.in-If.is))
     c.emit_branch-in-If.ensures
 

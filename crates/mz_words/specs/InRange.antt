@@ -57,9 +57,19 @@ pub record FunctionInRange (c : Code) (f : ℕ) (s : Start) : Type 0 where
   pub value : source < s.registers
   pub room : s.params ≤ s.registers
 
--- each function is in range, and `main` is one without parameters
+-- an address is that of an instruction of a function
+pub record IsInFunction (c : Code) (address : ℕ) : Type 0 where
+  pub f : ℕ
+  pub start : Start
+  pub found : slice_get c.entries f ≡ Some start
+  pub range : FunctionInRange c f start
+  pub behind : start.first ≤ address
+  pub within : address ≤ range.last
+
+-- each function is in range, `main` is one without parameters, and there is no instruction but those of functions
 pub record CodeInRange (c : Code) : Type 0 where
   pub functions : (f : ℕ) (s : Start) → slice_get c.entries f ≡ Some s → FunctionInRange c f s
   pub main : Start
   pub begins : slice_get c.entries c.main ≡ Some main
   pub no_params : main.params ≡ 0
+  pub covered : (address : ℕ) (i : Instr) → slice_get c.instrs address ≡ Some i → IsInFunction c address

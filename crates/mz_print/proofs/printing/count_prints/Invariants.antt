@@ -1,0 +1,10 @@
+use Rattle.std.proofs.Common.{◌≡◌, ◌+◌, length, drop}
+use Rattle.mz_words.specs.Tickets.{prints_among}
+use Rattle.mz_print.specs.Prints.{all_entries}
+use Rattle.mz_print.proofs.printing.count_prints.Given as goal
+
+abbrev pub invariant-loop-entry : goal.invariant-loop-entry
+invariant-loop-entry l = l.count + length (prints_among l.entry-iterator.entries.now) ≡ l.initial.count + length (prints_among l.initial.entry-iterator.entries.now)
+
+abbrev pub invariant-loop-k : goal.invariant-loop-k
+invariant-loop-k l = l.count + length (prints_among (all_entries (drop l.k l.parts))) ≡ length (prints_among (all_entries l.parts))

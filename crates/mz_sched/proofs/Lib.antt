@@ -1,0 +1,13 @@
+pub mod Deciding
+pub mod OneTurn
+pub mod OneReport
+pub mod Runnable
+pub mod Fresh
+pub mod Turned
+pub mod Ready
+pub mod Granted
+pub mod Gone
+pub mod Rounds
+pub mod FewPrints
+pub mod Started
+pub mod Finished
