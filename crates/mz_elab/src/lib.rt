@@ -1,0 +1,2 @@
+//! The proposer.
+#![tactic(auto)]
