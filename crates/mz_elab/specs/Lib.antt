@@ -6,3 +6,4 @@ pub mod Lacking
 pub mod Scoping
 pub mod Standing
 pub mod Scripting
+pub mod Joining

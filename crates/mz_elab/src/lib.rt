@@ -1,2 +1,10 @@
 //! The proposer.
 #![tactic(auto)]
+
+mod ends;
+mod fault;
+mod giving;
+mod goals;
+mod values;
+
+pub use fault::ElabFault;

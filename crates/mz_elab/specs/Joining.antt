@@ -1,0 +1,57 @@
+-- What the code of joins keeps and answers: the branches' ends, with the items that are written for each.
+use Rattle.std.specs.Prelude.{◌≡◌, ◌++◌, ◌≤◌, ℕ, Bool, true, false, List, [], ◌∷◌, map, length, Option, Some, None, slice_get, Result, Ok, Err}
+use Rattle.mz_tree.specs.Plain.{Ty, Atom, Unknown_type, Has_atom, Same_atom}
+use Rattle.mz_tree.specs.View.{plain_atom}
+use Rattle.mz_decl.specs.Declarations.{Decls}
+use Rattle.mz_deriv.specs.Scripts.{Item}
+use Rattle.mz_deriv.specs.View.{plain_item}
+use Rattle.mz_view.specs.Steps.{Step}
+use Rattle.mz_index.specs.Finding.{IsFirst, NoneFits}
+use Rattle.mz_goal.specs.Needs.{Need, Unmet}
+use Rattle.mz_elab.specs.Joins.{End, for_value, with_state, AllNeed, NotAllNeed, IsCommon, IsLeast, HoldsValue, first_state}
+use Rattle.mz_elab.specs.Lacking.{FirstLacks, GivesLack}
+use Rattle.mz_elab.specs.Scripting.{Shown, sees}
+use Rattle.mz_elab.specs.declared.ends.End.{End as CodeEnd}
+use Rattle.mz_elab.specs.declared.fault.ElabFault.{ElabFault}
+use Rattle.mz_elab.specs.declared.fault.ElabFault.TheVariants.{NoPermission, Memory}
+
+-- an end without its script
+abbrev pub plain_end : CodeEnd → End
+plain_end e = record { state = e.state; value = e.value; brace = e.brace }
+
+abbrev pub plain_ends : List CodeEnd → List End
+plain_ends ends = map plain_end ends
+
+-- the items that are written for an end
+abbrev pub items_at : CodeEnd → List Item
+items_at e = map plain_item e.items
+
+-- steps were written that show T from R
+pub record Writes (D : Decls) (K : ℕ → Type 0) (R : List (Atom ℕ)) (before after : List Item) (T : List (Atom ℕ)) : Type 0 where
+  pub steps : List Step
+  pub is : after ≡ before ++ sees steps
+  pub shown : Shown D K R steps T
+
+-- of each branch steps were written that show what its end has become beside these permissions, with its value for the
+-- command's name
+abbrev pub EachWrites : Decls → (ℕ → Type 0) → ℕ → List (Atom ℕ) → List CodeEnd → List CodeEnd → Type 0
+EachWrites D K c l [] after = after ≡ []
+EachWrites D K c l (e ∷ ends) [] = ⊥
+EachWrites D K c l (e ∷ ends) (f ∷ after) = (f.value ≡ e.value) × (f.brace ≡ e.brace) × Writes D K e.state (items_at e) (items_at f) (f.state ++ map (for_value c (plain_end e)) l) × EachWrites D K c l ends after
+
+-- a goal was met, and what was written for it; or it isn't met, and all is as before
+abbrev pub MeetsGoal : Bool → Decls → (ℕ → Type 0) → List (Atom ℕ) → Atom ℕ → List (Atom ℕ) → List Item → List Item → Type 0
+MeetsGoal true D K R g T p q = Need D R g T × Writes D K R p q (T ++ g ∷ [])
+MeetsGoal false D K R g T p q = Unmet D R g × (T ≡ R) × (q ≡ p)
+
+-- one branch meets the goal, and what is written for it; or at its brace the goal is wanting
+abbrev pub GoesOn : {A : Type 0} → Decls → (ℕ → Type 0) → ℕ → Atom ℕ → CodeEnd → CodeEnd → Result A ElabFault → Type 0
+GoesOn D K c g e f (Ok done) = (f.value ≡ e.value) × (f.brace ≡ e.brace) × Need D e.state (for_value c (plain_end e) g) f.state × Writes D K e.state (items_at e) (items_at f) (f.state ++ for_value c (plain_end e) g ∷ [])
+GoesOn D K c g e f (Err (NoPermission place a)) = Unmet D e.state (for_value c (plain_end e) g) × (place ≡ e.brace) × (plain_atom a ≡ for_value c (plain_end e) g)
+GoesOn D K c g e f (Err Memory) = Unit {0}
+
+-- all branches do; or the first that doesn't lacks it
+abbrev pub AllGoOn : {A : Type 0} → Decls → (ℕ → Type 0) → ℕ → Atom ℕ → List CodeEnd → List CodeEnd → Result A ElabFault → Type 0
+AllGoOn D K c g ends after (Ok done) = AllNeed D c g (plain_ends ends) (plain_ends after) × EachWrites D K c (g ∷ []) ends after
+AllGoOn D K c g ends after (Err (NoPermission place a)) = FirstLacks D c g (plain_ends ends) place (plain_atom a)
+AllGoOn D K c g ends after (Err Memory) = Unit {0}
