@@ -1,1 +1,4 @@
 pub mod EachGiven
+pub mod Showing
+pub mod EachWritten
+pub mod AllGiving

@@ -8,7 +8,7 @@ use Rattle.mz_deriv.specs.View.{plain_item}
 use Rattle.mz_view.specs.Steps.{Step}
 use Rattle.mz_index.specs.Finding.{IsFirst, NoneFits}
 use Rattle.mz_goal.specs.Needs.{Need, Unmet}
-use Rattle.mz_elab.specs.Joins.{End, for_value, with_state, AllNeed, NotAllNeed, IsCommon, IsLeast, HoldsValue, first_state}
+use Rattle.mz_elab.specs.Joins.{End, for_value, with_state, AllNeed, NotAllNeed, Gives, IsCommon, IsLeast, HoldsValue, first_state}
 use Rattle.mz_elab.specs.Lacking.{FirstLacks, GivesLack}
 use Rattle.mz_elab.specs.Scripting.{Shown, sees}
 use Rattle.mz_elab.specs.declared.ends.End.{End as CodeEnd}
@@ -55,3 +55,9 @@ abbrev pub AllGoOn : {A : Type 0} → Decls → (ℕ → Type 0) → ℕ → Ato
 AllGoOn D K c g ends after (Ok done) = AllNeed D c g (plain_ends ends) (plain_ends after) × EachWrites D K c (g ∷ []) ends after
 AllGoOn D K c g ends after (Err (NoPermission place a)) = FirstLacks D c g (plain_ends ends) place (plain_atom a)
 AllGoOn D K c g ends after (Err Memory) = Unit {0}
+
+-- all that is given; or the first of it that some branch lacks
+abbrev pub AllGiven : {A : Type 0} → Decls → (ℕ → Type 0) → ℕ → List (Atom ℕ) → List CodeEnd → List CodeEnd → Result A ElabFault → Type 0
+AllGiven D K c giving ends after (Ok done) = Gives D c giving (plain_ends ends) (plain_ends after) × EachWrites D K c giving ends after
+AllGiven D K c giving ends after (Err (NoPermission place a)) = GivesLack D c giving (plain_ends ends) place (plain_atom a)
+AllGiven D K c giving ends after (Err Memory) = Unit {0}

@@ -4,7 +4,7 @@ ghost use Rattle.mz_tree.specs.View.{plain_atom, plain_atoms};
 ghost use Rattle.mz_decl.specs.View.{plain_decls};
 ghost use Rattle.mz_modes.specs.Modes.{AreModes};
 ghost use Rattle.mz_elab.specs.Standing.{IsKnown};
-ghost use Rattle.mz_elab.specs.Joining.{GoesOn, AllGoOn};
+ghost use Rattle.mz_elab.specs.Joining.{GoesOn, AllGoOn, AllGiven};
 
 use crate::ElabFault;
 use crate::ends::End;
@@ -56,6 +56,26 @@ pub(crate) fn give(
 {
     for k in 0..ends.len() {
         meet_end(alloc, decls, modes, bound, next, to, goal, &mut ends[k])?;
+    }
+    Ok(())
+}
+
+// each branch meets each of these goals
+pub(crate) fn give_all(
+    alloc: Global,
+    decls: &Decls,
+    modes: &Modes,
+    bound: &Names,
+    next: u32,
+    to: u32,
+    giving: &[Atom],
+    ends: &mut [End],
+) -> Result<(), ElabFault>
+    requires { AreModes (plain_decls decls.now) modes.now }
+    ensures { AllGiven (plain_decls decls.now) (IsKnown bound.now next) to (plain_atoms giving.now) ends.old ends.new result }
+{
+    for i in 0..giving.len() {
+        give(alloc, decls, modes, bound, next, to, &giving[i], ends)?;
     }
     Ok(())
 }
