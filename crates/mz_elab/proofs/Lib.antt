@@ -2,3 +2,4 @@ pub mod EachGiven
 pub mod Showing
 pub mod EachWritten
 pub mod AllGiving
+pub mod EachClass

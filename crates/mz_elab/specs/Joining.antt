@@ -1,5 +1,5 @@
 -- What the code of joins keeps and answers: the branches' ends, with the items that are written for each.
-use Rattle.std.specs.Prelude.{◌≡◌, ◌++◌, ◌≤◌, ℕ, Bool, true, false, List, [], ◌∷◌, map, length, Option, Some, None, slice_get, Result, Ok, Err}
+use Rattle.std.specs.Prelude.{◌≡◌, ◌⊎◌, ◌++◌, ◌≤◌, ℕ, Bool, true, false, List, [], ◌∷◌, map, length, Option, Some, None, slice_get, Result, Ok, Err}
 use Rattle.mz_tree.specs.Plain.{Ty, Atom, Unknown_type, Has_atom, Same_atom}
 use Rattle.mz_tree.specs.View.{plain_atom}
 use Rattle.mz_decl.specs.Declarations.{Decls}
@@ -8,7 +8,7 @@ use Rattle.mz_deriv.specs.View.{plain_item}
 use Rattle.mz_view.specs.Steps.{Step}
 use Rattle.mz_index.specs.Finding.{IsFirst, NoneFits}
 use Rattle.mz_goal.specs.Needs.{Need, Unmet}
-use Rattle.mz_elab.specs.Joins.{End, for_value, with_state, AllNeed, NotAllNeed, Gives, IsCommon, IsLeast, HoldsValue, first_state}
+use Rattle.mz_elab.specs.Joins.{End, for_value, with_state, AllNeed, NotAllNeed, Gives, InEach, IsCommon, IsLeast, HoldsValue, first_state}
 use Rattle.mz_elab.specs.Lacking.{FirstLacks, GivesLack}
 use Rattle.mz_elab.specs.Scripting.{Shown, sees}
 use Rattle.mz_elab.specs.declared.ends.End.{End as CodeEnd}
@@ -61,3 +61,16 @@ abbrev pub AllGiven : {A : Type 0} → Decls → (ℕ → Type 0) → ℕ → Li
 AllGiven D K c giving ends after (Ok done) = Gives D c giving (plain_ends ends) (plain_ends after) × EachWrites D K c giving ends after
 AllGiven D K c giving ends after (Err (NoPermission place a)) = GivesLack D c giving (plain_ends ends) place (plain_atom a)
 AllGiven D K c giving ends after (Err Memory) = Unit {0}
+
+-- the least of the bound names that are of the value's class in every branch; or there is none
+abbrev pub CommonOf : Option ℕ → List ℕ → List End → Type 0
+CommonOf None names ends = (x : ℕ) → IsCommon names ends x → ⊥
+CommonOf (Some x) names ends = IsLeast (IsCommon names ends) x
+
+-- the best name so far, and one more that is of each class or isn't: the less of the two
+abbrev pub IsBelow : Option ℕ → ℕ → Type 0
+IsBelow None x = ⊥
+IsBelow (Some b) x = b ≤ x
+
+abbrev pub Better : List End → Option ℕ → ℕ → Option ℕ → Type 0
+Better ends best x it = ((it ≡ best) × (IsBelow best x ⊎ (InEach x ends → ⊥))) ⊎ ((it ≡ Some x) × InEach x ends × (IsBelow best x → ⊥))

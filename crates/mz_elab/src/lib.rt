@@ -1,6 +1,7 @@
 //! The proposer.
 #![tactic(auto)]
 
+mod common;
 mod ends;
 mod fault;
 mod giving;
