@@ -3,3 +3,5 @@ pub mod Showing
 pub mod EachWritten
 pub mod AllGiving
 pub mod EachClass
+pub mod NamedAlone
+pub mod Sorts

@@ -7,3 +7,4 @@ pub mod Scoping
 pub mod Standing
 pub mod Scripting
 pub mod Joining
+pub mod Sought

@@ -4,8 +4,10 @@
 mod common;
 mod ends;
 mod fault;
+mod finding;
 mod giving;
 mod goals;
+mod outer;
 mod values;
 
 pub use fault::ElabFault;
