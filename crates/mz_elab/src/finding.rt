@@ -64,6 +64,7 @@ fn first_by(
     requires test { plain_test test.now ≡ test_for (plain_sought sought.now) }
     ensures { IfOk result (λ it. FirstAt state.now name (IsSought (plain_decls decls.now) (plain_sought sought.now)) it) }
 {
+    let count = state.len();
     let mut from = 0;
     while let Some(place) = state.first(alloc, name, from, test)? {
         if suits(decls, modes, state.at(place), sought) {
