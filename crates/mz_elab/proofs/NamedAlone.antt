@@ -1,13 +1,15 @@
 -- A test of each name of a type or of a permission says whether these names alone stand in it.
-use Rattle.std.proofs.Common.{◌≡◌, ◌⊎◌, inl, inr, ◌||◌, ◌&&◌, ◌==◌, ℕ, Bool, true, false, List, [], ◌∷◌, refl, sym, subst}
+use Rattle.std.proofs.Common.{◌≡◌, ◌⊎◌, inl, inr, ◌||◌, ◌&&◌, ◌==◌, nat_le, nat_lt, ℕ, Bool, true, false, List, [], ◌∷◌, refl, sym, subst}
 use Rattle.std.specs.List.{list_any, list_all}
+use Rattle.std.proofs.lemmas.Bool.{leb-true, le-leb, ltb-true, lt-ltb}
 use Rattle.mz_tree.specs.Plain.{Ty, Atom, Atoms, Int_type, Unknown_type, Dynamic_type, Locked_type, Named_type, Function_type, Block_type, Lock_type, Has_atom, Same_atom, No_atoms, More_atoms}
 use Rattle.mz_tree.specs.Saying.{Says}
 use Rattle.mz_perm.specs.Lists.{In}
 use Rattle.mz_perm.specs.Occurrence.{in_type, in_atom, in_guarded}
 use Rattle.mz_deriv.specs.Outer.{all_in_type, all_in_atom, all_in_guarded}
 use Rattle.mz_deriv.proofs.WrittenNames.{among as is_among, either, or_first, or_second, is_same, same_is, any_number}
-use Rattle.mz_elab.specs.Sought.{among}
+use Rattle.mz_elab.specs.Standing.{IsKnown, OfAtom}
+use Rattle.mz_elab.specs.Sought.{among, known}
 
 and_first : (a b : Bool) → (a && b) ≡ true → a ≡ true
 and_first true b e = refl
@@ -82,19 +84,26 @@ module _ (test : ℕ → Bool) where
     all_guarded No_atoms h = refl
     all_guarded (More_atoms a q) h = and_both (all_in_atom test a) (all_in_guarded test q) (all_atom a (λ n o. h n (or_first (in_atom n a) (in_guarded n q) o))) (all_guarded q (λ n o. h n (or_second (in_atom n a) (in_guarded n q) o)))
 
--- so of a type and of a permission, with the names that may stand in it
-pub type_says : (names : List ℕ) (t : Ty ℕ) (b : Bool) → b ≡ all_in_type (among names) t → Says b ((n : ℕ) → in_type n t ≡ true → In n names)
-type_says names t true e = λ n i. any_number n names (held_type (among names) n t (sym e) i)
-type_says names t false e = λ f. absurd (no (all_in_type (among names) t) e (all_type (among names) t (λ n i. is_among n names (f n i))))
-  where
-    no : (b : Bool) → false ≡ b → b ≡ true → ⊥
-    no true e f = absurd (cc)
-    no false e f = absurd (cc)
+-- what the test of known names says
+pub known_is : (names : List ℕ) (next n : ℕ) → known names next n ≡ true → IsKnown names next n
+known_is names next n e = elim (either (among names n) (nat_le 256 n && nat_lt n next) e) [
+  | inl h ↦ inl (any_number n names h)
+  | inr h ↦ inr (leb-true 256 n (and_first (nat_le 256 n) (nat_lt n next) h), ltb-true n next (and_second (nat_le 256 n) (nat_lt n next) h))
+]
 
-pub atom_says : (names : List ℕ) (a : Atom ℕ) (b : Bool) → b ≡ all_in_atom (among names) a → Says b ((n : ℕ) → in_atom n a ≡ true → In n names)
-atom_says names a true e = λ n i. any_number n names (held_atom (among names) n a (sym e) i)
-atom_says names a false e = λ f. absurd (no (all_in_atom (among names) a) e (all_atom (among names) a (λ n i. is_among n names (f n i))))
-  where
-    no : (b : Bool) → false ≡ b → b ≡ true → ⊥
-    no true e f = absurd (cc)
-    no false e f = absurd (cc)
+pub is_known : (names : List ℕ) (next n : ℕ) → IsKnown names next n → known names next n ≡ true
+is_known names next n (inl i) = or_first (among names n) (nat_le 256 n && nat_lt n next) (is_among n names i)
+is_known names next n (inr b) = or_second (among names n) (nat_le 256 n && nat_lt n next) (and_both (nat_le 256 n) (nat_lt n next) (le-leb 256 n b.0) (lt-ltb n next b.1))
+
+not_both : (b : Bool) → false ≡ b → b ≡ true → ⊥
+not_both true e f = absurd (cc)
+not_both false e f = absurd (cc)
+
+-- so of a type and of a permission
+pub type_says : (names : List ℕ) (next : ℕ) (t : Ty ℕ) (b : Bool) → b ≡ all_in_type (known names next) t → Says b ((n : ℕ) → in_type n t ≡ true → IsKnown names next n)
+type_says names next t true e = λ n i. known_is names next n (held_type (known names next) n t (sym e) i)
+type_says names next t false e = λ f. not_both (all_in_type (known names next) t) e (all_type (known names next) t (λ n i. is_known names next n (f n i)))
+
+pub atom_says : (names : List ℕ) (next : ℕ) (a : Atom ℕ) (b : Bool) → b ≡ all_in_atom (known names next) a → Says b (OfAtom (IsKnown names next) a)
+atom_says names next a true e = λ n i. known_is names next n (held_atom (known names next) n a (sym e) i)
+atom_says names next a false e = λ f. not_both (all_in_atom (known names next) a) e (all_atom (known names next) a (λ n i. is_known names next n (f n i)))

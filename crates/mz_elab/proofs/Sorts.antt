@@ -1,5 +1,5 @@
 -- What is looked for, and how the index is asked for it.
-use Rattle.std.proofs.Common.{◌≡◌, ◌⊎◌, ◌<◌, ◌+◌, inl, inr, ℕ, Bool, true, false, List, [], ◌∷◌, Option, Some, None, length, slice_get, refl, sym, ap, ◌∙◌, subst}
+use Rattle.std.proofs.Common.{◌≡◌, ◌⊎◌, ◌<◌, ◌+◌, inl, inr, arith, ℕ, Bool, true, false, List, [], ◌∷◌, Option, Some, None, length, slice_get, refl, sym, ap, ◌∙◌, subst}
 use Rattle.std.proofs.lemmas.Option.{slice_get_within}
 use Rattle.mz_tree.specs.Plain.{Ty, Atom, Int_type, Unknown_type, Dynamic_type, Locked_type, Named_type, Function_type, Block_type, Lock_type, Has_atom, Same_atom}
 use Rattle.mz_tree.specs.Saying.{Says}
@@ -15,7 +15,8 @@ use Rattle.mz_index.specs.Questions.{IsFrom, FirstFrom}
 use Rattle.mz_index.proofs.Asking.{NoneBelow, asks_start, asks_none, asks_again, asks_found}
 use Rattle.mz_elab.specs.Acting.{BlockOf, SignedWith, AdoptsBy, ByData, AdoptsSome, GuardsSome}
 use Rattle.mz_elab.specs.Opening.{BlockIn}
-use Rattle.mz_elab.specs.Sought.{Sought, Open_sought, Closed_sought, Known_sought, Signed_sought, Adopter_sought, Lock_sought, Held_sought, IsSought, test_for, OfTy, FirstAt, IsFirstAt, AdoptedBy, ByDataAt, among}
+use Rattle.mz_elab.specs.Sought.{Sought, Open_sought, Closed_sought, Known_sought, Signed_sought, Adopter_sought, Lock_sought, Held_sought, IsSought, test_for, OfTy, FirstAt, IsFirstAt, AdoptedBy, ByDataAt, known}
+use Rattle.mz_elab.specs.Standing.{IsKnown}
 use Rattle.mz_elab.proofs.NamedAlone.{type_says}
 
 pub none_by_data : (D : Decls) (con : ℕ) (ys : List ℕ) (own r : Option ℕ) → own ≡ None → ByDataAt D con r → AdoptedBy D (Block_type con ys own) r
@@ -27,9 +28,14 @@ pub no_adopter : (D : Decls) (t : Ty ℕ) (r : Option ℕ) → r ≡ None → Ad
 no_adopter D t None e a h = a h.0 h.1.clause
 no_adopter D t (Some u) e a h = absurd (cc)
 
-pub held_says : (D : Decls) (names : List ℕ) (t : Ty ℕ) (b : Bool) → (t ≡ Unknown_type → ⊥) → b ≡ all_in_type (among names) t → Says b (IsSought D (Held_sought names) t)
-held_says D names t true n e = (n, type_says names t true e)
-held_says D names t false n e = λ h. type_says names t false e h.1
+-- where no made name is known the others are
+bound_only : (names : List ℕ) (n : ℕ) → IsKnown names 0 n → In n names
+bound_only names n (inl i) = i
+bound_only names n (inr b) = absurd (omega (arith, b.1))
+
+pub held_says : (D : Decls) (names : List ℕ) (t : Ty ℕ) (b : Bool) → (t ≡ Unknown_type → ⊥) → b ≡ all_in_type (known names 0) t → Says b (IsSought D (Held_sought names) t)
+held_says D names t true n e = (n, λ m i. bound_only names m (type_says names 0 t true e m i))
+held_says D names t false n e = λ h. type_says names 0 t false e (λ m i. inl (h.1 m i))
 
 one_is : (a b : Atom ℕ) → Some a ≡ Some b → a ≡ b
 one_is a b e = cc

@@ -1,5 +1,5 @@
 -- What the code looks for in a class, each the first of its sort.
-use Rattle.std.specs.Prelude.{◌≡◌, ◌==◌, ℕ, Bool, true, List, Option, Some, None, length, slice_get}
+use Rattle.std.specs.Prelude.{◌≡◌, ◌==◌, ◌||◌, ◌&&◌, nat_le, nat_lt, ℕ, Bool, true, List, Option, Some, None, length, slice_get}
 use Rattle.std.specs.List.{list_any}
 use Rattle.mz_tree.specs.Plain.{Ty, Atom, Unknown_type, Named_type, Has_atom, Same_atom}
 use Rattle.mz_tree.specs.Programs.{Con, Sig}
@@ -95,3 +95,7 @@ ByDataAt D con (Some u) = ByData D con u
 -- the name is one of these
 abbrev pub among : List ℕ → ℕ → Bool
 among names n = list_any (λ m. m == n) names
+
+-- the name is known: one of these, or made and below the next one
+abbrev pub known : List ℕ → ℕ → ℕ → Bool
+known names next n = among names n || (nat_le 256 n && nat_lt n next)

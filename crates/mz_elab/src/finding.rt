@@ -244,7 +244,7 @@ fn is_held(ty: &Ty, names: &[u32]) -> bool
     if is_unknown(ty) {
         return false;
     }
-    type_names(ty, names)
+    type_names(ty, names, 0)
 }
 
 fn is_unknown(ty: &Ty) -> bool
