@@ -5,3 +5,4 @@ pub mod AllGiving
 pub mod EachClass
 pub mod NamedAlone
 pub mod Sorts
+pub mod Thin

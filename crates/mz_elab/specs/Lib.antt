@@ -8,3 +8,4 @@ pub mod Standing
 pub mod Scripting
 pub mod Joining
 pub mod Sought
+pub mod Thinning

@@ -8,6 +8,7 @@ mod finding;
 mod giving;
 mod goals;
 mod outer;
+mod thinning;
 mod values;
 
 pub use fault::ElabFault;
