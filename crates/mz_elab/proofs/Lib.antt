@@ -6,3 +6,4 @@ pub mod EachClass
 pub mod NamedAlone
 pub mod Sorts
 pub mod Thin
+pub mod GoalSteps

@@ -3,6 +3,10 @@ use Rattle.std.specs.Prelude.{◌≡◌, ◌⊎◌, ◌++◌, ◌≤◌, ℕ, Bo
 use Rattle.mz_tree.specs.Plain.{Ty, Atom, Unknown_type, Has_atom, Same_atom}
 use Rattle.mz_tree.specs.View.{plain_atom}
 use Rattle.mz_decl.specs.Declarations.{Decls}
+use Rattle.mz_perm.specs.Lists.{In}
+use Rattle.mz_view.specs.Rules.{subject_of}
+use Rattle.mz_view.specs.declared.step.ViewStep.TheVariants.{Unknown as UnknownCode}
+use Rattle.mz_deriv.specs.declared.script.Item.{Item as CodeItem, Step as StepItem}
 use Rattle.mz_deriv.specs.Scripts.{Item}
 use Rattle.mz_deriv.specs.View.{plain_item}
 use Rattle.mz_view.specs.Steps.{Step}
@@ -74,3 +78,12 @@ IsBelow (Some b) x = b ≤ x
 
 abbrev pub Better : List End → Option ℕ → ℕ → Option ℕ → Type 0
 Better ends best x it = ((it ≡ best) × (IsBelow best x ⊎ (InEach x ends → ⊥))) ⊎ ((it ≡ Some x) × InEach x ends × (IsBelow best x → ⊥))
+
+-- a goal that says nothing of a name
+abbrev pub IsUnknownGoal : Atom ℕ → Type 0
+IsUnknownGoal (Has_atom x t) = t ≡ Unknown_type
+IsUnknownGoal (Same_atom x y) = ⊥
+
+-- it is held already, or the step that says it was written
+abbrev pub SaysUnknown : List (Atom ℕ) → Atom ℕ → List CodeItem → List CodeItem → Type 0
+SaysUnknown R g before after = (In g R × (after ≡ before)) ⊎ (after ≡ before ++ StepItem (UnknownCode (subject_of g)) ∷ [])

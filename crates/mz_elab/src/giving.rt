@@ -12,8 +12,7 @@ use crate::goals::meet_goal;
 use crate::values::atom_with;
 use mz_decl::Decls;
 use mz_modes::Modes;
-use mz_tree::{Atom, Memory, Names};
-use sqlite_items::Items;
+use mz_tree::Atom;
 use std::alloc::Global;
 
 // one branch meets the goal, with its value for the name `to`
@@ -21,7 +20,7 @@ fn meet_end(
     alloc: Global,
     decls: &Decls,
     modes: &Modes,
-    bound: &Names,
+    bound: &[u32],
     next: u32,
     to: u32,
     goal: &Atom,
@@ -45,7 +44,7 @@ pub(crate) fn give(
     alloc: Global,
     decls: &Decls,
     modes: &Modes,
-    bound: &Names,
+    bound: &[u32],
     next: u32,
     to: u32,
     goal: &Atom,
@@ -65,7 +64,7 @@ pub(crate) fn give_all(
     alloc: Global,
     decls: &Decls,
     modes: &Modes,
-    bound: &Names,
+    bound: &[u32],
     next: u32,
     to: u32,
     giving: &[Atom],
