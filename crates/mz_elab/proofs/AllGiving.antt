@@ -32,10 +32,10 @@ pub at_index : {A : Type 0} (xs : List A) (i : ℕ) (x : A) → i < length xs �
 at_index xs i x h e = slice_get-get_or xs i x h ∙ ap Some (sym e)
 
 -- of a list of permissions
-plain_more : (xs : List CodeAtom) (i : ℕ) (a : CodeAtom) → slice_get xs i ≡ Some a → i < length xs → plain_atoms (take (i + 1) xs) ≡ plain_atoms (take i xs) ++ plain_atom a ∷ []
+pub plain_more : (xs : List CodeAtom) (i : ℕ) (a : CodeAtom) → slice_get xs i ≡ Some a → i < length xs → plain_atoms (take (i + 1) xs) ≡ plain_atoms (take i xs) ++ plain_atom a ∷ []
 plain_more xs i a is h = ap plain_atoms (take_at xs i a is) ∙ map-append plain_atom (take i xs) (a ∷ [])
 
-plain_left : (xs : List CodeAtom) (i : ℕ) (a : CodeAtom) → slice_get xs i ≡ Some a → plain_atoms (drop i xs) ≡ plain_atom a ∷ plain_atoms (drop (i + 1) xs)
+pub plain_left : (xs : List CodeAtom) (i : ℕ) (a : CodeAtom) → slice_get xs i ≡ Some a → plain_atoms (drop i xs) ≡ plain_atom a ∷ plain_atoms (drop (i + 1) xs)
 plain_left xs i a is = ap plain_atoms (drop_at xs i a is)
 
 module _ (D : Decls) (K : ℕ → Type 0) (c : ℕ) (giving : List CodeAtom) (old : List CodeEnd) where

@@ -7,3 +7,4 @@ pub mod NamedAlone
 pub mod Sorts
 pub mod Thin
 pub mod GoalSteps
+pub mod SeveralGoals

@@ -2,6 +2,7 @@
 use Rattle.std.specs.Prelude.{◌≡◌, ◌⊎◌, ◌++◌, ◌≤◌, ℕ, Bool, true, false, List, [], ◌∷◌, map, length, Option, Some, None, slice_get, Result, Ok, Err}
 use Rattle.mz_tree.specs.Plain.{Ty, Atom, Unknown_type, Has_atom, Same_atom}
 use Rattle.mz_tree.specs.View.{plain_atom}
+use Rattle.mz_tree.specs.declared.types.Place.{Place}
 use Rattle.mz_decl.specs.Declarations.{Decls}
 use Rattle.mz_perm.specs.Lists.{In}
 use Rattle.mz_view.specs.Rules.{subject_of}
@@ -11,7 +12,7 @@ use Rattle.mz_deriv.specs.Scripts.{Item}
 use Rattle.mz_deriv.specs.View.{plain_item}
 use Rattle.mz_view.specs.Steps.{Step}
 use Rattle.mz_index.specs.Finding.{IsFirst, NoneFits}
-use Rattle.mz_goal.specs.Needs.{Need, Unmet}
+use Rattle.mz_goal.specs.Needs.{Need, Needs, Unmet, FirstUnmet}
 use Rattle.mz_elab.specs.Joins.{End, for_value, with_state, AllNeed, NotAllNeed, Gives, InEach, IsCommon, IsLeast, HoldsValue, first_state}
 use Rattle.mz_elab.specs.Lacking.{FirstLacks, GivesLack}
 use Rattle.mz_elab.specs.Scripting.{Shown, sees}
@@ -87,3 +88,9 @@ IsUnknownGoal (Same_atom x y) = ⊥
 -- it is held already, or the step that says it was written
 abbrev pub SaysUnknown : List (Atom ℕ) → Atom ℕ → List CodeItem → List CodeItem → Type 0
 SaysUnknown R g before after = (In g R × (after ≡ before)) ⊎ (after ≡ before ++ StepItem (UnknownCode (subject_of g)) ∷ [])
+
+-- goals are met one after the other; or at this place the first of them is wanting that isn't
+abbrev pub MeetsGoals : {A : Type 0} → Decls → (ℕ → Type 0) → List (Atom ℕ) → List (Atom ℕ) → Place → List (Atom ℕ) → List Item → List Item → Result A ElabFault → Type 0
+MeetsGoals D K R goals place T p q (Ok done) = Needs D R goals T × Writes D K R p q (T ++ goals)
+MeetsGoals D K R goals place T p q (Err (NoPermission other a)) = (other ≡ place) × FirstUnmet D R goals (plain_atom a)
+MeetsGoals D K R goals place T p q (Err Memory) = Unit {0}
