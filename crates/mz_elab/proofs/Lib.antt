@@ -8,3 +8,8 @@ pub mod Sorts
 pub mod Thin
 pub mod GoalSteps
 pub mod SeveralGoals
+pub mod Same
+pub mod OneWay
+pub mod NotBoth
+pub mod Once
+pub mod Whole

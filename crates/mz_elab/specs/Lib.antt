@@ -9,3 +9,4 @@ pub mod Scripting
 pub mod Joining
 pub mod Sought
 pub mod Thinning
+pub mod Laws

@@ -7,8 +7,10 @@ mod fault;
 mod finding;
 mod giving;
 mod goals;
+mod laws;
 mod outer;
 mod thinning;
 mod values;
 
 pub use fault::ElabFault;
+pub use laws::{at_most_one_is_wanting, leads_to_one_list, nothing_guided_lacks};
