@@ -13,3 +13,4 @@ pub mod OneWay
 pub mod NotBoth
 pub mod Once
 pub mod Whole
+pub mod AllTried

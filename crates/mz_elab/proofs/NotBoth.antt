@@ -81,7 +81,7 @@ opens_not D R (Match_op y d cases giving) a b l (inl w) = l.no_block w.place w.o
 opens_not D R (Match_op y d cases giving) a b l (inr w) = l.no_data w.place w.one w.first.stands w.first.fits
 opens_not D R op a b l w = w
 
-first_not : (D : Decls) (c : ℕ) (g : Atom ℕ) (ends after : List End) (place : Place) (a : Atom ℕ) → FirstLacks D c g ends place a → AllNeed D c g ends after → ⊥
+pub first_not : (D : Decls) (c : ℕ) (g : Atom ℕ) (ends after : List End) (place : Place) (a : Atom ℕ) → FirstLacks D c g ends place a → AllNeed D c g ends after → ⊥
 first_not D c g [] after place a l n = l
 first_not D c g (e ∷ ends) after place a (inl l) n = l.0 n.0 n.2
 first_not D c g (e ∷ ends) after place a (inr l) n = first_not D c g ends n.1 place a l.2 n.3

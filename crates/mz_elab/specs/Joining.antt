@@ -94,3 +94,18 @@ abbrev pub MeetsGoals : {A : Type 0} → Decls → (ℕ → Type 0) → List (At
 MeetsGoals D K R goals place T p q (Ok done) = Needs D R goals T × Writes D K R p q (T ++ goals)
 MeetsGoals D K R goals place T p q (Err (NoPermission other a)) = (other ≡ place) × FirstUnmet D R goals (plain_atom a)
 MeetsGoals D K R goals place T p q (Err Memory) = Unit {0}
+
+-- whether a branch would meet the goal, with its value for the command's name
+abbrev pub Would : Bool → Decls → ℕ → Atom ℕ → End → Type 0
+Would true D c g e = (T : List (Atom ℕ)) × Need D e.state (for_value c e g) T
+Would false D c g e = Unmet D e.state (for_value c e g)
+
+-- whether each would
+abbrev pub AllWould : Bool → Decls → ℕ → Atom ℕ → List End → Type 0
+AllWould true D c g ends = (after : List End) × AllNeed D c g ends after
+AllWould false D c g ends = NotAllNeed D c g ends
+
+-- each branch met the goal, and what was written for it; or some branch doesn't meet it, and all is as before
+abbrev pub Tries : Bool → Decls → (ℕ → Type 0) → ℕ → Atom ℕ → List CodeEnd → List CodeEnd → Type 0
+Tries true D K c g ends after = AllNeed D c g (plain_ends ends) (plain_ends after) × EachWrites D K c (g ∷ []) ends after
+Tries false D K c g ends after = NotAllNeed D c g (plain_ends ends) × (after ≡ ends)

@@ -10,6 +10,7 @@ mod goals;
 mod laws;
 mod outer;
 mod thinning;
+mod trying;
 mod values;
 
 pub use fault::ElabFault;
