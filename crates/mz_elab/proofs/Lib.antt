@@ -14,3 +14,4 @@ pub mod NotBoth
 pub mod Once
 pub mod Whole
 pub mod AllTried
+pub mod PutBack

@@ -13,7 +13,7 @@ use Rattle.mz_deriv.specs.View.{plain_item}
 use Rattle.mz_view.specs.Steps.{Step}
 use Rattle.mz_index.specs.Finding.{IsFirst, NoneFits}
 use Rattle.mz_goal.specs.Needs.{Need, Needs, Unmet, FirstUnmet}
-use Rattle.mz_elab.specs.Joins.{End, for_value, with_state, AllNeed, NotAllNeed, Gives, InEach, IsCommon, IsLeast, HoldsValue, first_state}
+use Rattle.mz_elab.specs.Joins.{End, for_value, with_state, AllNeed, NotAllNeed, Gives, InEach, IsCommon, IsLeast, HoldsValue, first_state, OfData, IsRestored, Restores}
 use Rattle.mz_elab.specs.Lacking.{FirstLacks, GivesLack}
 use Rattle.mz_elab.specs.Scripting.{Shown, sees}
 use Rattle.mz_elab.specs.declared.ends.End.{End as CodeEnd}
@@ -109,3 +109,29 @@ AllWould false D c g ends = NotAllNeed D c g ends
 abbrev pub Tries : Bool → Decls → (ℕ → Type 0) → ℕ → Atom ℕ → List CodeEnd → List CodeEnd → Type 0
 Tries true D K c g ends after = AllNeed D c g (plain_ends ends) (plain_ends after) × EachWrites D K c (g ∷ []) ends after
 Tries false D K c g ends after = NotAllNeed D c g (plain_ends ends) × (after ≡ ends)
+
+-- the permission has x at d, or at a block of a constructor of d
+abbrev pub IsOf : Decls → ℕ → ℕ → Atom ℕ → Type 0
+IsOf D x d (Has_atom y t) = (y ≡ x) × OfData D d t
+IsOf D x d (Same_atom y z) = ⊥
+
+-- one permission of the state before is restored, and stands in the join from then on; or it isn't, and all is as before
+pub record PutsBack (D : Decls) (K : ℕ → Type 0) (c : ℕ) (join : List (Atom ℕ)) (a : Atom ℕ) (ends after : List CodeEnd) (all : List (Atom ℕ)) : Type 0 where
+  pub restored : IsRestored D c join a (plain_ends ends) (plain_ends after)
+  pub more : all ≡ join ++ a ∷ []
+  pub written : EachWrites D K c (a ∷ []) ends after
+
+pub record LeavesOut (D : Decls) (c : ℕ) (join : List (Atom ℕ)) (a : Atom ℕ) (ends after : List CodeEnd) (all : List (Atom ℕ)) : Type 0 where
+  pub not : (S : List End) → IsRestored D c join a (plain_ends ends) S → ⊥
+  pub same : after ≡ ends
+  pub join_same : all ≡ join
+
+abbrev pub RestoresOne : Decls → (ℕ → Type 0) → ℕ → List (Atom ℕ) → Atom ℕ → List CodeEnd → List CodeEnd → List (Atom ℕ) → Type 0
+RestoresOne D K c join a ends after all = PutsBack D K c join a ends after all ⊎ LeavesOut D c join a ends after all
+
+-- all of them that are
+pub record RestoresAll (D : Decls) (K : ℕ → Type 0) (c : ℕ) (before join : List (Atom ℕ)) (ends after : List CodeEnd) (all : List (Atom ℕ)) : Type 0 where
+  pub restores : Restores D c before join (plain_ends ends) (plain_ends after) all
+  pub more : List (Atom ℕ)
+  pub is : all ≡ join ++ more
+  pub written : EachWrites D K c more ends after

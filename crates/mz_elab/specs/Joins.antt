@@ -1,8 +1,7 @@
 -- How branches join: in four parts, each of which says what it makes of the branches' ends and what it adds to the join.
-use Rattle.std.specs.Prelude.{◌≡◌, ◌⊎◌, ◌≤◌, true, ℕ, List, [], ◌∷◌, ◌++◌, Some, slice_get}
+use Rattle.std.specs.Prelude.{◌≡◌, ◌⊎◌, ◌≤◌, true, ℕ, List, [], ◌∷◌, ◌++◌}
 use Rattle.mz_tree.specs.Plain.{Ty, Atom, Unknown_type, Named_type, Block_type, Has_atom, Same_atom, map_atom}
 use Rattle.mz_tree.specs.Code.{Body, result_of, brace_of}
-use Rattle.mz_tree.specs.Programs.{Con}
 use Rattle.mz_tree.specs.declared.types.Place.{Place}
 use Rattle.mz_decl.specs.Declarations.{Decls}
 use Rattle.mz_modes.specs.Affine.{AffineAtom}
@@ -12,6 +11,7 @@ use Rattle.mz_perm.specs.Occurrence.{in_atom, in_type}
 use Rattle.mz_deriv.specs.Walks.{IsOuter, in_place_of}
 use Rattle.mz_index.specs.Finding.{IsFirst, NoneFits, InClass}
 use Rattle.mz_goal.specs.Needs.{Need}
+use Rattle.mz_elab.specs.Scoping.{IsConOf}
 
 -- the end of a branch: its state, the name of its value, and the place of its closing brace
 pub record End : Type 0 where
@@ -122,7 +122,7 @@ Shares D names R (a ∷ more) ends after join =
 -- the join has x at d, or at a block of a constructor of d
 abbrev pub OfData : Decls → ℕ → Ty ℕ → Type 0
 OfData D d (Named_type e) = e ≡ d
-OfData D d (Block_type con ys clause) = (made : Con) × (slice_get D.cons con ≡ Some made) × (made.variety ≡ d)
+OfData D d (Block_type con ys clause) = IsConOf D d con
 OfData D d _ = ⊥
 
 abbrev pub HasData : Decls → ℕ → ℕ → List (Atom ℕ) → Type 0

@@ -1,9 +1,9 @@
 pub mod Acting
 pub mod Opening
+pub mod Scoping
 pub mod Joins
 pub mod Guided
 pub mod Lacking
-pub mod Scoping
 pub mod Standing
 pub mod Scripting
 pub mod Joining

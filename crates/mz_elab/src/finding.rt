@@ -159,7 +159,7 @@ fn is_known(decls: &Decls, ty: &Ty, number: u32) -> bool
 }
 
 // whether the constructor is one of the data type
-fn is_con_of(decls: &Decls, con: u32, number: u32) -> bool
+pub(crate) fn is_con_of(decls: &Decls, con: u32, number: u32) -> bool
     ensures { Says result (IsConOf (plain_decls decls.now) number con) }
 {
     match decls.con_at(con) {

@@ -9,6 +9,7 @@ mod giving;
 mod goals;
 mod laws;
 mod outer;
+mod restoring;
 mod thinning;
 mod trying;
 mod values;
