@@ -24,10 +24,10 @@ next : (k : ℕ) (now old : List CodeEnd) → drop k now ≡ drop k old → drop
 next k now old e = sym (drop-drop 1 k now) ∙ ap (drop 1) e ∙ drop-drop 1 k old
 
 -- what stands at a place, and the rest
-whole : (old now : List CodeEnd) (k : ℕ) (e : CodeEnd) → slice_get now k ≡ Some e → drop k now ≡ drop k old → drop k old ≡ e ∷ drop (k + 1) old
+pub whole : (old now : List CodeEnd) (k : ℕ) (e : CodeEnd) → slice_get now k ≡ Some e → drop k now ≡ drop k old → drop k old ≡ e ∷ drop (k + 1) old
 whole old now k e is left = sym left ∙ drop_at now k e is ∙ ap (λ l. e ∷ l) (next k now old left)
 
-shift : (now old : List CodeEnd) (k : ℕ) (e : CodeEnd) → slice_get now k ≡ Some e → drop k now ≡ drop k old → drop (k + 1) now ≡ drop (k + 1) old
+pub shift : (now old : List CodeEnd) (k : ℕ) (e : CodeEnd) → slice_get now k ≡ Some e → drop k now ≡ drop k old → drop (k + 1) now ≡ drop (k + 1) old
 shift now old k e is left = next k now old left
 
 module _ (D : Decls) (K : ℕ → Type 0) (c : ℕ) (g : Atom ℕ) where

@@ -15,3 +15,4 @@ pub mod Once
 pub mod Whole
 pub mod AllTried
 pub mod PutBack
+pub mod Shared

@@ -1,19 +1,20 @@
 -- What the code of joins keeps and answers: the branches' ends, with the items that are written for each.
-use Rattle.std.specs.Prelude.{◌≡◌, ◌⊎◌, ◌++◌, ◌≤◌, ℕ, Bool, true, false, List, [], ◌∷◌, map, length, Option, Some, None, slice_get, Result, Ok, Err}
+use Rattle.std.specs.Prelude.{◌≡◌, ◌⊎◌, ◌↔◌, ◌++◌, ◌≤◌, ℕ, Bool, true, false, List, [], ◌∷◌, map, length, Option, Some, None, slice_get, Result, Ok, Err}
 use Rattle.mz_tree.specs.Plain.{Ty, Atom, Unknown_type, Has_atom, Same_atom}
 use Rattle.mz_tree.specs.View.{plain_atom}
 use Rattle.mz_tree.specs.declared.types.Place.{Place}
 use Rattle.mz_decl.specs.Declarations.{Decls}
-use Rattle.mz_perm.specs.Lists.{In}
+use Rattle.mz_perm.specs.Lists.{In, TakesFirst}
 use Rattle.mz_view.specs.Rules.{subject_of}
 use Rattle.mz_view.specs.declared.step.ViewStep.TheVariants.{Unknown as UnknownCode}
 use Rattle.mz_deriv.specs.declared.script.Item.{Item as CodeItem, Step as StepItem}
+use Rattle.mz_deriv.specs.Walks.{IsOuter}
 use Rattle.mz_deriv.specs.Scripts.{Item}
 use Rattle.mz_deriv.specs.View.{plain_item}
 use Rattle.mz_view.specs.Steps.{Step}
 use Rattle.mz_index.specs.Finding.{IsFirst, NoneFits}
 use Rattle.mz_goal.specs.Needs.{Need, Needs, Unmet, FirstUnmet}
-use Rattle.mz_elab.specs.Joins.{End, for_value, with_state, AllNeed, NotAllNeed, Gives, InEach, IsCommon, IsLeast, HoldsValue, first_state, OfData, IsRestored, Restores}
+use Rattle.mz_elab.specs.Joins.{End, for_value, with_state, AllNeed, NotAllNeed, Gives, InEach, IsCommon, IsLeast, HoldsValue, first_state, OfData, IsRestored, Restores, InAll, OutOfAll, IsShared, LeavesAll, Shares}
 use Rattle.mz_elab.specs.Lacking.{FirstLacks, GivesLack}
 use Rattle.mz_elab.specs.Scripting.{Shown, sees}
 use Rattle.mz_elab.specs.declared.ends.End.{End as CodeEnd}
@@ -135,3 +136,45 @@ pub record RestoresAll (D : Decls) (K : ℕ → Type 0) (c : ℕ) (before join :
   pub more : List (Atom ℕ)
   pub is : all ≡ join ++ more
   pub written : EachWrites D K c more ends after
+
+-- an end keeps its value, its place and what is written for it
+abbrev pub Keeps : CodeEnd → CodeEnd → Type 0
+Keeps e f = (f.value ≡ e.value) × (f.brace ≡ e.brace) × (f.items ≡ e.items)
+
+abbrev pub EachKeeps : List CodeEnd → List CodeEnd → Type 0
+EachKeeps [] after = after ≡ []
+EachKeeps (e ∷ ends) [] = ⊥
+EachKeeps (e ∷ ends) (f ∷ after) = Keeps e f × EachKeeps ends after
+
+-- the first copy of a permission that stands in an end is taken out
+abbrev pub TakesOut : Atom ℕ → CodeEnd → CodeEnd → Type 0
+TakesOut a e f = (In a e.state → TakesFirst a e.state f.state) × Keeps e f
+
+abbrev pub TakesOutAll : Atom ℕ → List CodeEnd → List CodeEnd → Type 0
+TakesOutAll a ends after = InAll a (plain_ends ends) → OutOfAll a (plain_ends ends) (plain_ends after) × EachKeeps ends after
+
+-- these are the names that are known outside of the branches of a command at R
+abbrev pub AreOuter : List ℕ → List ℕ → List (Atom ℕ) → Type 0
+AreOuter outer names R = (n : ℕ) → In n outer ↔ IsOuter names R n
+
+-- one permission is shared, and stands in the join from then on; or it isn't, and all is as before
+pub record IsShareOf (D : Decls) (names : List ℕ) (R : List (Atom ℕ)) (a : Atom ℕ) (ends after : List CodeEnd) (join all : List (Atom ℕ)) : Type 0 where
+  pub shared : IsShared names R a (plain_ends ends)
+  pub leaves : LeavesAll D a (plain_ends ends) (plain_ends after)
+  pub keeps : EachKeeps ends after
+  pub more : all ≡ join ++ a ∷ []
+
+pub record IsNoShareOf (names : List ℕ) (R : List (Atom ℕ)) (a : Atom ℕ) (ends after : List CodeEnd) (join all : List (Atom ℕ)) : Type 0 where
+  pub not : IsShared names R a (plain_ends ends) → ⊥
+  pub same : after ≡ ends
+  pub join_same : all ≡ join
+
+abbrev pub SharesOne : Decls → List ℕ → List (Atom ℕ) → Atom ℕ → List CodeEnd → List CodeEnd → List (Atom ℕ) → List (Atom ℕ) → Type 0
+SharesOne D names R a ends after join all = IsShareOf D names R a ends after join all ⊎ IsNoShareOf names R a ends after join all
+
+-- all of these that are
+pub record SharesAll (D : Decls) (names : List ℕ) (R these : List (Atom ℕ)) (ends after : List CodeEnd) (join all : List (Atom ℕ)) : Type 0 where
+  pub share : List (Atom ℕ)
+  pub shares : Shares D names R these (plain_ends ends) (plain_ends after) share
+  pub is : all ≡ join ++ share
+  pub keeps : EachKeeps ends after

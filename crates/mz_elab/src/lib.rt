@@ -10,6 +10,7 @@ mod goals;
 mod laws;
 mod outer;
 mod restoring;
+mod sharing;
 mod thinning;
 mod trying;
 mod values;
