@@ -16,3 +16,5 @@ pub mod Whole
 pub mod AllTried
 pub mod PutBack
 pub mod Shared
+pub mod Named
+pub mod Valued

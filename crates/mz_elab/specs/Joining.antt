@@ -1,7 +1,8 @@
 -- What the code of joins keeps and answers: the branches' ends, with the items that are written for each.
 use Rattle.std.specs.Prelude.{◌≡◌, ◌⊎◌, ◌↔◌, ◌++◌, ◌≤◌, ℕ, Bool, true, false, List, [], ◌∷◌, map, length, Option, Some, None, slice_get, Result, Ok, Err}
 use Rattle.mz_tree.specs.Plain.{Ty, Atom, Unknown_type, Has_atom, Same_atom}
-use Rattle.mz_tree.specs.View.{plain_atom}
+use Rattle.mz_tree.specs.View.{plain_atom, plain_ty}
+use Rattle.mz_tree.specs.declared.types.Ty.{Ty as CodeTy}
 use Rattle.mz_tree.specs.declared.types.Place.{Place}
 use Rattle.mz_decl.specs.Declarations.{Decls}
 use Rattle.mz_perm.specs.Lists.{In, TakesFirst}
@@ -12,11 +13,12 @@ use Rattle.mz_deriv.specs.Walks.{IsOuter}
 use Rattle.mz_deriv.specs.Scripts.{Item}
 use Rattle.mz_deriv.specs.View.{plain_item}
 use Rattle.mz_view.specs.Steps.{Step}
-use Rattle.mz_index.specs.Finding.{IsFirst, NoneFits}
+use Rattle.mz_index.specs.Finding.{IsFirst, NoneFits, InClass}
 use Rattle.mz_goal.specs.Needs.{Need, Needs, Unmet, FirstUnmet}
-use Rattle.mz_elab.specs.Joins.{End, for_value, with_state, AllNeed, NotAllNeed, Gives, InEach, IsCommon, IsLeast, HoldsValue, first_state, OfData, IsRestored, Restores, InAll, OutOfAll, IsShared, LeavesAll, Shares}
+use Rattle.mz_elab.specs.Joins.{End, for_value, with_state, AllNeed, NotAllNeed, Gives, InEach, IsCommon, IsLeast, OuterType, OfData, IsRestored, Restores, InAll, OutOfAll, IsShared, LeavesAll, Shares, Values}
 use Rattle.mz_elab.specs.Lacking.{FirstLacks, GivesLack}
 use Rattle.mz_elab.specs.Scripting.{Shown, sees}
+use Rattle.mz_elab.specs.Sought.{FirstAt}
 use Rattle.mz_elab.specs.declared.ends.End.{End as CodeEnd}
 use Rattle.mz_elab.specs.declared.fault.ElabFault.{ElabFault}
 use Rattle.mz_elab.specs.declared.fault.ElabFault.TheVariants.{NoPermission, Memory}
@@ -178,3 +180,50 @@ pub record SharesAll (D : Decls) (names : List ℕ) (R these : List (Atom ℕ)) 
   pub shares : Shares D names R these (plain_ends ends) (plain_ends after) share
   pub is : all ≡ join ++ share
   pub keeps : EachKeeps ends after
+
+-- what is known of the value of the branches, with the bound names and the outer ones, and what was written for it
+pub record ValuesAll (D : Decls) (K : ℕ → Type 0) (names : List ℕ) (R : List (Atom ℕ)) (c : ℕ) (ends after : List CodeEnd) (join all : List (Atom ℕ)) : Type 0 where
+  pub value : List (Atom ℕ)
+  pub values : Values D names R c (plain_ends ends) (plain_ends after) value
+  pub is : all ≡ join ++ value
+  pub written : EachWrites D K c value ends after
+
+-- the value is a bound name: that is written, and stands in the join
+pub record Names (D : Decls) (K : ℕ → Type 0) (c x : ℕ) (ends after : List CodeEnd) (join all : List (Atom ℕ)) : Type 0 where
+  pub same : plain_ends after ≡ plain_ends ends
+  pub is : all ≡ join ++ Same_atom c x ∷ []
+  pub written : EachWrites D K c (Same_atom c x ∷ []) ends after
+
+-- each branch holds its value at the type, which stands in the join from then on; or some branch doesn't, and all is as
+-- before
+pub record HoldsIt (D : Decls) (K : ℕ → Type 0) (c : ℕ) (t : Ty ℕ) (ends after : List CodeEnd) (join all : List (Atom ℕ)) : Type 0 where
+  pub met : AllNeed D c (Has_atom c t) (plain_ends ends) (plain_ends after)
+  pub is : all ≡ join ++ Has_atom c t ∷ []
+  pub written : EachWrites D K c (Has_atom c t ∷ []) ends after
+
+pub record HoldsNot (D : Decls) (c : ℕ) (t : Ty ℕ) (ends after : List CodeEnd) (join all : List (Atom ℕ)) : Type 0 where
+  pub not : NotAllNeed D c (Has_atom c t) (plain_ends ends)
+  pub same : after ≡ ends
+  pub join_same : all ≡ join
+
+abbrev pub HoldsOr : Decls → (ℕ → Type 0) → ℕ → Ty ℕ → List CodeEnd → List CodeEnd → List (Atom ℕ) → List (Atom ℕ) → Type 0
+HoldsOr D K c t ends after join all = HoldsIt D K c t ends after join all ⊎ HoldsNot D c t ends after join all
+
+-- what the first branch holds, with its state and its value
+abbrev pub HeldIn : List ℕ → List (Atom ℕ) → List (Atom ℕ) → ℕ → Option ℕ → Type 0
+HeldIn names R S value found = FirstAt S value (λ t. (t ≡ Unknown_type → ⊥) × OuterType names R t) found
+
+-- what is known of the value where it is no bound name
+abbrev pub TypeKnown : Decls → (ℕ → Type 0) → List ℕ → List (Atom ℕ) → ℕ → List CodeEnd → List CodeEnd → List (Atom ℕ) → List (Atom ℕ) → Type 0
+TypeKnown D K names R c ends after join all = ((x : ℕ) → IsCommon names (plain_ends ends) x → ⊥) → ValuesAll D K names R c ends after join all
+
+-- its type
+pub record HeldAs (names : List ℕ) (R S : List (Atom ℕ)) (value : ℕ) (t : Ty ℕ) : Type 0 where
+  pub place : ℕ
+  pub one : Atom ℕ
+  pub first : IsFirst (InClass S value (λ u. (u ≡ Unknown_type → ⊥) × OuterType names R u)) S place one
+  pub ty : t ≡ first.fits.ty
+
+abbrev pub HeldTy : List ℕ → List (Atom ℕ) → List (Atom ℕ) → ℕ → Option CodeTy → Type 0
+HeldTy names R S value None = NoneFits (InClass S value (λ u. (u ≡ Unknown_type → ⊥) × OuterType names R u)) S
+HeldTy names R S value (Some ty) = HeldAs names R S value (plain_ty ty)

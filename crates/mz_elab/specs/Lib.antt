@@ -6,7 +6,7 @@ pub mod Guided
 pub mod Lacking
 pub mod Standing
 pub mod Scripting
-pub mod Joining
 pub mod Sought
 pub mod Thinning
 pub mod Laws
+pub mod Joining
