@@ -1,5 +1,5 @@
 -- What is given, one goal after the other.
-use Rattle.std.proofs.Common.{◌≡◌, ◌⊎◌, ◌<◌, ◌≤◌, inl, inr, ℕ, zero, suc, arith, ◌+◌, List, [], ◌∷◌, ◌++◌, length, get_or, map, take, drop, Some, slice_get, Result, Ok, Err, refl, sym, ap, ◌∙◌, subst, append-nil}
+use Rattle.std.proofs.Common.{◌≡◌, ◌<◌, ◌≤◌, inl, inr, ℕ, zero, suc, arith, ◌+◌, List, [], ◌∷◌, ◌++◌, length, get_or, take, drop, Some, slice_get, Ok, Err, refl, sym, ap, ◌∙◌, subst}
 use Rattle.std.proofs.lemmas.List.{take_all, drop_all, map-append}
 use Rattle.std.proofs.lemmas.Option.{slice_get-get_or}
 use Rattle.mz_tree.specs.Plain.{Atom}

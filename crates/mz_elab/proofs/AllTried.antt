@@ -1,15 +1,14 @@
 -- Whether all branches would meet a goal.
-use Rattle.std.proofs.Common.{◌≡◌, ◌<◌, ◌≤◌, inl, inr, ℕ, suc, ◌+◌, Bool, true, false, Result, Ok, Err, IfOk, List, [], ◌∷◌, length, map, take, drop, Some, slice_get, refl, sym, ap, ◌∙◌, subst}
+use Rattle.std.proofs.Common.{◌≡◌, ◌≤◌, ℕ, ◌+◌, Bool, true, false, Result, Ok, Err, IfOk, List, [], ◌∷◌, length, drop, Some, slice_get, refl, sym, subst}
 use Rattle.std.proofs.lemmas.List.{drop_all}
 use Rattle.mz_tree.specs.Plain.{Atom}
-use Rattle.mz_tree.specs.View.{plain_atom}
 use Rattle.mz_tree.specs.declared.types.Place.{Place}
 use Rattle.mz_decl.specs.Declarations.{Decls}
 use Rattle.mz_perm.proofs.Remaining.{drop_at}
 use Rattle.mz_view.specs.declared.step.ViewStep.{ViewStep}
 use Rattle.mz_goal.specs.Needs.{Need, Unmet}
 use Rattle.mz_goal.specs.Answers.{MeetsNeed}
-use Rattle.mz_elab.specs.Joins.{End, for_value, with_state, AllNeed, NotAllNeed}
+use Rattle.mz_elab.specs.Joins.{End, for_value, with_state, NotAllNeed}
 use Rattle.mz_elab.specs.Lacking.{FirstLacks}
 use Rattle.mz_elab.specs.Joining.{plain_end, plain_ends, Would, AllWould}
 use Rattle.mz_elab.specs.declared.ends.End.{End as CodeEnd}

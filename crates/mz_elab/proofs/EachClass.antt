@@ -1,13 +1,13 @@
 -- A name that is of the value's class in every branch, and the least of several.
-use Rattle.std.proofs.Common.{◌≡◌, ◌⊎◌, ◌<◌, ◌≤◌, ◌↔◌, IsTrue, Result, Ok, Err, IfOk, inl, inr, ℕ, zero, suc, arith, ◌+◌, Bool, true, false, List, [], ◌∷◌, ◌++◌, length, get_or, map, take, drop, Option, Some, None, slice_get, refl, sym, ap, ◌∙◌, subst}
+use Rattle.std.proofs.Common.{◌≡◌, ◌⊎◌, ◌≤◌, Result, Ok, Err, IfOk, inl, inr, ℕ, arith, ◌+◌, List, [], ◌∷◌, ◌++◌, length, take, drop, Option, Some, None, slice_get, refl, sym, subst}
 use Rattle.std.proofs.lemmas.List.{take_all, drop_all}
 use Rattle.mz_perm.specs.Lists.{In}
 use Rattle.mz_perm.specs.Joining.{Joined}
 use Rattle.mz_perm.proofs.Remaining.{drop_at}
-use Rattle.mz_elab.specs.Joins.{End, InEach, IsCommon, IsLeast}
-use Rattle.mz_elab.specs.Joining.{plain_end, plain_ends, CommonOf, IsBelow, Better}
+use Rattle.mz_elab.specs.Joins.{End, InEach}
+use Rattle.mz_elab.specs.Joining.{plain_ends, CommonOf, IsBelow, Better}
 use Rattle.mz_elab.specs.declared.ends.End.{End as CodeEnd}
-use Rattle.mz_elab.proofs.AllGiving.{at_index, take_at}
+use Rattle.mz_elab.proofs.AllGiving.{take_at}
 
 -- whether the first k branches say so of the name leaves it to the others
 pub record InFront (x : ℕ) (ends : List CodeEnd) (k : ℕ) : Type 0 where

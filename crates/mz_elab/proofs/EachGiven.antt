@@ -1,5 +1,5 @@
 -- A goal of one branch after the other.
-use Rattle.std.proofs.Common.{◌≡◌, ◌⊎◌, ◌<◌, ◌≤◌, inl, inr, ℕ, suc, ◌+◌, List, [], ◌∷◌, ◌++◌, Bool, true, false, arith, length, take, drop, set, Some, slice_get, Result, Ok, Err, refl, sym, ap, ◌∙◌, subst, append-nil, append_assoc}
+use Rattle.std.proofs.Common.{◌≡◌, ◌<◌, ◌≤◌, inl, inr, ℕ, ◌+◌, List, [], ◌∷◌, ◌++◌, Bool, true, false, arith, length, take, drop, set, Some, slice_get, Ok, Err, refl, sym, ap, ◌∙◌, subst, append-nil, append_assoc}
 use Rattle.std.proofs.lemmas.List.{take_more_set, drop-set-lt, drop-drop, length-set, take_all, drop_all}
 use Rattle.mz_tree.specs.Plain.{Atom}
 use Rattle.mz_tree.specs.View.{plain_atom}
@@ -10,10 +10,9 @@ use Rattle.mz_elab.specs.Joins.{AllNeed}
 use Rattle.mz_elab.specs.Lacking.{FirstLacks}
 use Rattle.mz_deriv.specs.Scripts.{Item}
 use Rattle.mz_goal.specs.Needs.{Unmet}
-use Rattle.mz_elab.specs.Joining.{MeetsGoal, plain_end, plain_ends, EachWrites, GoesOn, AllGoOn}
+use Rattle.mz_elab.specs.Joining.{MeetsGoal, plain_end, plain_ends, EachWrites, GoesOn}
 use Rattle.mz_elab.specs.declared.ends.End.{End as CodeEnd}
-use Rattle.mz_elab.specs.declared.fault.ElabFault.{ElabFault}
-use Rattle.mz_elab.specs.declared.fault.ElabFault.TheVariants.{NoPermission, Memory}
+use Rattle.mz_elab.specs.declared.fault.ElabFault.TheVariants.{NoPermission}
 
 -- a goal that isn't met
 pub refused : (b : Bool) (D : Decls) (K : ℕ → Type 0) (R : List (Atom ℕ)) (g h : Atom ℕ) (T : List (Atom ℕ)) (p q : List Item) → b ≡ false → g ≡ h → MeetsGoal b D K R g T p q → Unmet D R h

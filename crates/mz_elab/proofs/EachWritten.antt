@@ -3,11 +3,10 @@ use Rattle.std.proofs.Common.{◌≡◌, ℕ, List, [], ◌∷◌, ◌++◌, map
 use Rattle.std.proofs.lemmas.List.{map-append}
 use Rattle.mz_tree.specs.Plain.{Atom, map_atom}
 use Rattle.mz_decl.specs.Declarations.{Decls}
-use Rattle.mz_perm.proofs.Orders.{perm_refl, perm_is}
+use Rattle.mz_perm.proofs.Orders.{perm_is}
 use Rattle.mz_deriv.specs.Scripts.{Item}
 use Rattle.mz_deriv.specs.Walks.{in_place_of}
-use Rattle.mz_view.specs.Steps.{Step}
-use Rattle.mz_elab.specs.Scripting.{Shown, sees}
+use Rattle.mz_elab.specs.Scripting.{sees}
 use Rattle.mz_elab.specs.Joins.{for_value}
 use Rattle.mz_elab.specs.Joining.{plain_end, items_at, Writes, EachWrites}
 use Rattle.mz_elab.specs.declared.ends.End.{End as CodeEnd}

@@ -1,5 +1,5 @@
 -- The value of all branches is a bound name.
-use Rattle.std.proofs.Common.{◌≡◌, ◌⊎◌, ◌==◌, if◌then◌else◌, inl, inr, ℕ, Bool, true, false, List, [], ◌∷◌, ◌++◌, map, refl, sym, ap, ◌∙◌, subst}
+use Rattle.std.proofs.Common.{◌≡◌, ◌==◌, if◌then◌else◌, inl, inr, ℕ, Bool, true, false, List, [], ◌∷◌, map, refl, sym, ap, ◌∙◌, subst}
 use Rattle.std.proofs.lemmas.Bool.{eq-eqb}
 use Rattle.mz_tree.specs.Plain.{Atom, Same_atom}
 use Rattle.mz_tree.specs.declared.types.Place.{Place}
@@ -9,7 +9,7 @@ use Rattle.mz_deriv.specs.Walks.{in_place_of}
 use Rattle.mz_goal.specs.Goals.{Entry, atoms, unused, Meets, Same_met}
 use Rattle.mz_goal.specs.Needs.{Need}
 use Rattle.mz_goal.proofs.Meeting.{atoms_unused}
-use Rattle.mz_elab.specs.Joins.{End, for_value, with_state, InEach, AllNeed}
+use Rattle.mz_elab.specs.Joins.{End, with_state, InEach, AllNeed}
 use Rattle.mz_elab.specs.Lacking.{FirstLacks}
 
 -- an equation of joined names is met, and leaves the state as it is

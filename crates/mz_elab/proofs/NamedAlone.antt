@@ -1,10 +1,9 @@
 -- A test of each name of a type or of a permission says whether these names alone stand in it.
-use Rattle.std.proofs.Common.{◌≡◌, ◌⊎◌, inl, inr, ◌||◌, ◌&&◌, ◌==◌, nat_le, nat_lt, ℕ, Bool, true, false, List, [], ◌∷◌, refl, sym, subst}
+use Rattle.std.proofs.Common.{◌≡◌, inl, inr, ◌&&◌, ◌==◌, nat_le, nat_lt, ℕ, Bool, true, false, List, [], ◌∷◌, refl, sym, subst}
 use Rattle.std.specs.List.{list_any, list_all}
 use Rattle.std.proofs.lemmas.Bool.{leb-true, le-leb, ltb-true, lt-ltb}
 use Rattle.mz_tree.specs.Plain.{Ty, Atom, Atoms, Int_type, Unknown_type, Dynamic_type, Locked_type, Named_type, Function_type, Block_type, Lock_type, Has_atom, Same_atom, No_atoms, More_atoms}
 use Rattle.mz_tree.specs.Saying.{Says}
-use Rattle.mz_perm.specs.Lists.{In}
 use Rattle.mz_perm.specs.Occurrence.{in_type, in_atom, in_guarded}
 use Rattle.mz_deriv.specs.Outer.{all_in_type, all_in_atom, all_in_guarded}
 use Rattle.mz_deriv.proofs.WrittenNames.{among as is_among, either, or_first, or_second, is_same, same_is, any_number}

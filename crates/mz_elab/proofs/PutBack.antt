@@ -1,14 +1,13 @@
 -- What was held at a data type before the branches, one permission after the other.
-use Rattle.std.proofs.Common.{◌≡◌, ◌⊎◌, ◌<◌, ◌≤◌, inl, inr, ℕ, suc, ◌+◌, Bool, true, false, List, [], ◌∷◌, ◌++◌, length, map, take, drop, Some, slice_get, refl, sym, ap, ◌∙◌, subst, append-nil, append_assoc}
+use Rattle.std.proofs.Common.{◌≡◌, ◌⊎◌, ◌≤◌, inl, inr, ℕ, ◌+◌, Bool, true, false, List, [], ◌∷◌, ◌++◌, length, drop, Some, slice_get, refl, sym, ap, ◌∙◌, subst, append-nil, append_assoc}
 use Rattle.std.proofs.lemmas.List.{drop_all}
-use Rattle.mz_tree.specs.Plain.{Ty, Atom, Named_type, Has_atom, Same_atom}
+use Rattle.mz_tree.specs.Plain.{Atom, Has_atom, Same_atom}
 use Rattle.mz_tree.specs.Saying.{Says}
 use Rattle.mz_tree.specs.View.{plain_atom, plain_atoms}
 use Rattle.mz_tree.specs.declared.types.Atom.{Atom as CodeAtom}
 use Rattle.mz_decl.specs.Declarations.{Decls}
-use Rattle.mz_perm.specs.Lists.{In}
 use Rattle.mz_perm.proofs.Remaining.{drop_at}
-use Rattle.mz_elab.specs.Joins.{End, HasData, OfData, IsWanting, IsRestored, Restores}
+use Rattle.mz_elab.specs.Joins.{End, HasData, Restores}
 use Rattle.mz_elab.specs.Joining.{plain_ends, EachWrites, IsOf, RestoresOne, RestoresAll}
 use Rattle.mz_elab.specs.declared.ends.End.{End as CodeEnd}
 use Rattle.mz_elab.proofs.AllGiving.{plain_left}

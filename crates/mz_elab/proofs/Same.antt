@@ -1,20 +1,20 @@
 -- What is guided leads to one state and one number: the commands without branches.
-use Rattle.std.proofs.Common.{◌≡◌, ◌+◌, inl, inr, ℕ, suc, List, [], ◌∷◌, ◌++◌, length, map, take, drop, Option, None, Some, slice_get, slice_set, refl, sym, ap, ◌∙◌, subst}
-use Rattle.mz_tree.specs.Plain.{Ty, Atom, Atoms, Int_type, Unknown_type, Dynamic_type, Locked_type, Named_type, Function_type, Block_type, Lock_type, Has_atom, Same_atom, atoms_of}
+use Rattle.std.proofs.Common.{◌≡◌, ◌+◌, inl, inr, ℕ, suc, List, [], ◌∷◌, ◌++◌, length, map, take, drop, Option, None, Some, slice_get, slice_set, sym, ap, ◌∙◌, subst}
+use Rattle.mz_tree.specs.Plain.{Ty, Atom, Int_type, Unknown_type, Dynamic_type, Locked_type, Named_type, Function_type, Block_type, Lock_type, Has_atom, Same_atom, atoms_of}
 use Rattle.mz_tree.specs.Code.{Op, Int_op, Unit_op, Fun_op, Copy_op, Arith_op, New_op, Read_op, Write_op, Retag_op, If_op, Match_op, Call_op, Give_op, Take_op, New_lock_op, Acquire_op, Release_op, Spawn_op, Print_op}
 use Rattle.mz_tree.specs.Programs.{Con, Need as SigNeed, Sig}
 use Rattle.mz_decl.specs.Declarations.{Decls, clause_of}
 use Rattle.mz_modes.specs.Affine.{Affine}
 use Rattle.mz_decl.specs.Contents.{opened, names_from}
 use Rattle.mz_decl.specs.Signatures.{needed, at_args, given}
-use Rattle.mz_modes.specs.Calling.{Returns, GivesBack}
+use Rattle.mz_modes.specs.Calling.{GivesBack}
 use Rattle.mz_lockrule.specs.Locking.{TypeGuards}
 use Rattle.mz_flow.specs.Commands.{NamesFunction, LeavesAdopts}
 use Rattle.mz_index.specs.Finding.{IsFirst, InClass}
 use Rattle.mz_goal.specs.Goals.{Aside, unused, atoms}
 use Rattle.mz_goal.specs.Needs.{Need, NeedBeside, Needs}
 use Rattle.mz_goal.proofs.Unique.{place_same, entry_same, meets_same, need_same, needs_same}
-use Rattle.mz_elab.specs.Acting.{BlockOf, OpensAt, FindsBlock, Reading, Changing, Written, Retagged, SignedWith, FindsFunction, Calling, Spawning, Meeting, ByData, AdoptsBy, Adopts, AdoptsSome, with_clause, FindsAdopter, Giving, Taking, GuardsSome, FindsLock, Acquiring, Releasing, Acts}
+use Rattle.mz_elab.specs.Acting.{BlockOf, OpensAt, FindsBlock, Reading, Changing, Written, Retagged, SignedWith, FindsFunction, Calling, Spawning, Meeting, ByData, AdoptsBy, AdoptsSome, with_clause, FindsAdopter, Giving, Taking, GuardsSome, FindsLock, Acquiring, Releasing, Acts}
 
 some_is : {A : Type 0} (a b : A) → Some a ≡ Some b → a ≡ b
 some_is a b e = cc

@@ -1,12 +1,12 @@
 -- Several goals, one after the other.
-use Rattle.std.proofs.Common.{◌≡◌, ◌⊎◌, ◌<◌, ◌≤◌, inl, inr, ℕ, suc, ◌+◌, Bool, true, false, List, [], ◌∷◌, ◌++◌, length, map, take, drop, Some, slice_get, refl, sym, ap, ◌∙◌, subst, append-nil}
+use Rattle.std.proofs.Common.{◌≡◌, ◌<◌, ◌≤◌, inl, inr, ℕ, ◌+◌, Bool, true, false, List, [], ◌∷◌, ◌++◌, length, take, drop, Some, slice_get, refl, sym, ap, subst}
 use Rattle.std.proofs.lemmas.List.{take_all, drop_all}
 use Rattle.mz_tree.specs.Plain.{Atom}
 use Rattle.mz_tree.specs.View.{plain_atom, plain_atoms}
 use Rattle.mz_tree.specs.declared.types.Atom.{Atom as CodeAtom}
 use Rattle.mz_decl.specs.Declarations.{Decls}
 use Rattle.mz_deriv.specs.Scripts.{Item}
-use Rattle.mz_goal.specs.Needs.{Need, Needs, Unmet, FirstUnmet}
+use Rattle.mz_goal.specs.Needs.{Needs, Unmet, FirstUnmet}
 use Rattle.mz_elab.specs.Joining.{Writes, MeetsGoal}
 use Rattle.mz_elab.proofs.EachWritten.{writes_after, writes_none}
 use Rattle.mz_elab.proofs.AllGiving.{plain_more, plain_left}

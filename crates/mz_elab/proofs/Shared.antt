@@ -1,20 +1,18 @@
 -- What stands in every branch, one permission after the other.
-use Rattle.std.proofs.Common.{◌≡◌, ◌⊎◌, ◌<◌, ◌≤◌, ◌↔◌, IsTrue, inl, inr, ℕ, suc, arith, ◌+◌, Bool, true, false, Result, Ok, Err, IfOk, List, [], ◌∷◌, ◌++◌, length, map, take, drop, set, Some, slice_get, refl, sym, ap, ◌∙◌, subst, append-nil, append_assoc}
-use Rattle.std.proofs.lemmas.List.{take_more_set, drop-set-lt, drop-drop, length-set, take_all, drop_all, map-append}
-use Rattle.mz_tree.specs.Plain.{Ty, Atom}
+use Rattle.std.proofs.Common.{◌≡◌, ◌<◌, ◌≤◌, inl, inr, ℕ, arith, ◌+◌, Bool, true, false, List, [], ◌∷◌, ◌++◌, length, take, drop, set, Some, slice_get, refl, sym, ap, ◌∙◌, subst, append-nil, append_assoc}
+use Rattle.std.proofs.lemmas.List.{take_more_set, drop-set-lt, length-set, take_all, drop_all, map-append}
+use Rattle.mz_tree.specs.Plain.{Atom}
 use Rattle.mz_tree.specs.Saying.{Says, Denies}
 use Rattle.mz_tree.specs.View.{plain_atom, plain_atoms}
 use Rattle.mz_tree.specs.declared.types.Atom.{Atom as CodeAtom}
 use Rattle.mz_decl.specs.Declarations.{Decls}
 use Rattle.mz_modes.specs.Affine.{AffineAtom}
 use Rattle.mz_perm.specs.Lists.{In, TakesFirst, Removes}
-use Rattle.mz_perm.specs.Occurrence.{in_atom}
 use Rattle.mz_perm.proofs.Remaining.{drop_at}
 use Rattle.mz_deriv.specs.Outer.{all_in_atom}
-use Rattle.mz_elab.specs.Standing.{IsKnown, OfAtom}
 use Rattle.mz_elab.specs.Sought.{known}
-use Rattle.mz_elab.specs.Joins.{End, OuterAtom, InAll, OutOfAll, with_state, IsShared, LeavesAll, Shares}
-use Rattle.mz_elab.specs.Joining.{plain_end, plain_ends, Keeps, EachKeeps, TakesOut, TakesOutAll, AreOuter, IsShareOf, SharesOne, SharesAll}
+use Rattle.mz_elab.specs.Joins.{End, OuterAtom, InAll, Shares}
+use Rattle.mz_elab.specs.Joining.{plain_end, plain_ends, EachKeeps, TakesOut, TakesOutAll, AreOuter, SharesOne, SharesAll}
 use Rattle.mz_elab.specs.declared.ends.End.{End as CodeEnd}
 use Rattle.mz_elab.proofs.NamedAlone.{atom_says}
 use Rattle.mz_elab.proofs.EachGiven.{whole, shift}

@@ -1,12 +1,11 @@
 -- Steps that are shown, one after the other and beside other permissions.
-use Rattle.std.proofs.Common.{◌≡◌, ℕ, List, [], ◌∷◌, ◌++◌, map, append-nil, append_assoc, refl, sym, ap, ◌∙◌, subst}
+use Rattle.std.proofs.Common.{◌≡◌, ℕ, List, [], ◌∷◌, ◌++◌, append_assoc, refl, ap, subst}
 use Rattle.mz_tree.specs.Plain.{Atom}
 use Rattle.mz_decl.specs.Declarations.{Decls}
 use Rattle.mz_perm.specs.Lists.{SameUpToOrder}
-use Rattle.mz_perm.proofs.Orders.{perm_refl, perm_is}
 use Rattle.mz_view.specs.Steps.{Step}
-use Rattle.mz_deriv.specs.Scripts.{Item, See_item}
-use Rattle.mz_goal.specs.Leads.{Leads, Nameless}
+use Rattle.mz_deriv.specs.Scripts.{See_item}
+use Rattle.mz_goal.specs.Leads.{Nameless}
 use Rattle.mz_view.specs.Rules.{View}
 use Rattle.mz_goal.proofs.Frames.{leads_none, leads_one, leads_then, leads_front, leads_same, leads_from, perm_beside}
 use Rattle.mz_elab.specs.Scripting.{Thinned, Thin_none, Thin_kept, Thin_copy, Thin_drop, Shown, sees}

@@ -1,21 +1,17 @@
 -- What is looked for, and how the index is asked for it.
-use Rattle.std.proofs.Common.{◌≡◌, ◌⊎◌, ◌<◌, ◌+◌, inl, inr, arith, ℕ, Bool, true, false, List, [], ◌∷◌, Option, Some, None, length, slice_get, refl, sym, ap, ◌∙◌, subst}
-use Rattle.std.proofs.lemmas.Option.{slice_get_within}
+use Rattle.std.proofs.Common.{◌≡◌, ◌+◌, inl, inr, arith, ℕ, Bool, true, false, List, Option, Some, None, slice_get, refl, sym, ◌∙◌, subst}
 use Rattle.mz_tree.specs.Plain.{Ty, Atom, Int_type, Unknown_type, Dynamic_type, Locked_type, Named_type, Function_type, Block_type, Lock_type, Has_atom, Same_atom}
 use Rattle.mz_tree.specs.Saying.{Says}
 use Rattle.mz_decl.specs.Declarations.{Decls}
-use Rattle.mz_modes.specs.Affine.{ExclusiveTy}
 use Rattle.mz_perm.specs.Lists.{In}
 use Rattle.mz_perm.specs.Joining.{Joined}
-use Rattle.mz_perm.specs.Occurrence.{in_type}
 use Rattle.mz_deriv.specs.Outer.{all_in_type}
-use Rattle.mz_index.specs.Finding.{IsFirst, NoneFits, InClass}
-use Rattle.mz_index.specs.Tests.{Test, Passes, Block_test, Block_of_test, Variety_test, Function_test, Lock_test, Any_test}
+use Rattle.mz_index.specs.Finding.{InClass}
+use Rattle.mz_index.specs.Tests.{Test, Passes, Block_test, Function_test}
 use Rattle.mz_index.specs.Questions.{IsFrom, FirstFrom}
 use Rattle.mz_index.proofs.Asking.{NoneBelow, asks_start, asks_none, asks_again, asks_found}
-use Rattle.mz_elab.specs.Acting.{BlockOf, SignedWith, AdoptsBy, ByData, AdoptsSome, GuardsSome}
-use Rattle.mz_elab.specs.Opening.{BlockIn}
-use Rattle.mz_elab.specs.Sought.{Sought, Open_sought, Closed_sought, Known_sought, Signed_sought, Adopter_sought, Lock_sought, Held_sought, IsSought, test_for, OfTy, FirstAt, IsFirstAt, AdoptedBy, ByDataAt, known}
+use Rattle.mz_elab.specs.Acting.{AdoptsSome}
+use Rattle.mz_elab.specs.Sought.{Sought, Open_sought, Closed_sought, Known_sought, Signed_sought, Adopter_sought, Lock_sought, Held_sought, IsSought, test_for, OfTy, FirstAt, AdoptedBy, ByDataAt, known}
 use Rattle.mz_elab.specs.Standing.{IsKnown}
 use Rattle.mz_elab.proofs.NamedAlone.{type_says}
 

@@ -1,7 +1,6 @@
 -- Steps that are left out, from the last to the first.
-use Rattle.std.proofs.Common.{◌≡◌, ◌⊎◌, inl, inr, ℕ, Bool, true, false, ◌&&◌, Result, Ok, Err, IfOk, List, [], ◌∷◌, ◌++◌, map, reverse, refl, sym, ap, ◌∙◌, subst, append_assoc, append-nil}
+use Rattle.std.proofs.Common.{◌≡◌, inl, inr, ℕ, Bool, true, false, List, [], ◌∷◌, ◌++◌, map, reverse, refl, sym, ap, ◌∙◌, subst, append_assoc, append-nil}
 use Rattle.std.proofs.lemmas.List.{map-append, reverse-append}
-use Rattle.mz_tree.specs.Plain.{Atom}
 use Rattle.mz_tree.specs.Saying.{Says, Denies}
 use Rattle.mz_tree.specs.View.{plain_atom}
 use Rattle.mz_tree.specs.declared.types.Atom.{Atom as CodeAtom}
@@ -10,11 +9,11 @@ use Rattle.mz_modes.specs.Affine.{AffineAtom}
 use Rattle.mz_view.specs.Steps.{Step, Drop_step, Copy_step, Unfold_step, Fold_step, Rename_step, Equal_step, Dynamic_step, Clause_step, Unknown_step, Meet_step, Field_step, Lock_step, plain_step, plain_steps}
 use Rattle.mz_view.specs.declared.step.ViewStep.{ViewStep}
 use Rattle.mz_view.specs.declared.step.ViewStep.TheVariants.{Drop as DropCode}
-use Rattle.mz_deriv.specs.Scripts.{Item, See_item}
+use Rattle.mz_deriv.specs.Scripts.{See_item}
 use Rattle.mz_deriv.specs.View.{plain_item}
 use Rattle.mz_deriv.specs.declared.script.Item.{Item as CodeItem, Step as StepItem}
 use Rattle.mz_elab.specs.Standing.{OfAtom}
-use Rattle.mz_elab.specs.Scripting.{IsSpare, Thinned, Thin_none, Thin_kept, Thin_copy, Thin_drop, sees}
+use Rattle.mz_elab.specs.Scripting.{Thinned, Thin_none, Thin_kept, Thin_copy, Thin_drop}
 use Rattle.mz_elab.specs.Thinning.{IsSilent, KeepsOne, KeepsThin, WritesThin}
 
 module _ (D : Decls) (K : ℕ → Type 0) where

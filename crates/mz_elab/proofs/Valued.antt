@@ -1,18 +1,15 @@
 -- What is known of the value of all branches.
-use Rattle.std.proofs.Common.{◌≡◌, ◌⊎◌, ◌<◌, ◌≤◌, ◌↔◌, inl, inr, ℕ, zero, suc, arith, Bool, true, false, Result, Ok, Err, IfOk, List, [], ◌∷◌, ◌++◌, length, get_or, map, Option, Some, None, slice_get, refl, sym, ap, ◌∙◌, subst, append-nil}
+use Rattle.std.proofs.Common.{◌≡◌, ◌<◌, inl, inr, ℕ, arith, List, [], ◌∷◌, ◌++◌, length, Option, Some, None, slice_get, sym, ap, ◌∙◌, subst, append-nil}
 use Rattle.std.proofs.lemmas.Option.{slice_get_within}
 use Rattle.mz_tree.specs.Plain.{Ty, Atom, Unknown_type, Has_atom, Same_atom}
 use Rattle.mz_tree.specs.View.{plain_ty}
 use Rattle.mz_tree.specs.declared.types.Ty.{Ty as CodeTy}
 use Rattle.mz_decl.specs.Declarations.{Decls}
-use Rattle.mz_perm.specs.Lists.{In}
-use Rattle.mz_perm.specs.Occurrence.{in_type}
-use Rattle.mz_deriv.specs.Walks.{IsOuter}
 use Rattle.mz_deriv.specs.Parts.{SameNames}
-use Rattle.mz_index.specs.Finding.{IsFirst, NoneFits, InClass}
+use Rattle.mz_index.specs.Finding.{NoneFits, InClass}
 use Rattle.mz_elab.specs.Sought.{FirstAt, IsSought, Held_sought}
-use Rattle.mz_elab.specs.Joins.{End, OuterType, InEach, IsCommon, IsLeast, HoldsValue, first_state, first_value, AllNeed, Values, Value_named, Value_held, Value_left, Value_unknown}
-use Rattle.mz_elab.specs.Joining.{plain_end, plain_ends, EachWrites, CommonOf, AreOuter, HeldIn, HeldTy, HoldsOr, Names, ValuesAll, TypeKnown}
+use Rattle.mz_elab.specs.Joins.{End, OuterType, InEach, IsCommon, IsLeast, HoldsValue, first_state, AllNeed, Values, Value_named, Value_held, Value_left, Value_unknown}
+use Rattle.mz_elab.specs.Joining.{plain_ends, EachWrites, CommonOf, AreOuter, HeldIn, HeldTy, HoldsOr, Names, ValuesAll, TypeKnown}
 use Rattle.mz_elab.specs.declared.ends.End.{End as CodeEnd}
 use Rattle.mz_elab.proofs.EachWritten.{each_none}
 

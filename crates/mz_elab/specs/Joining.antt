@@ -1,5 +1,5 @@
 -- What the code of joins keeps and answers: the branches' ends, with the items that are written for each.
-use Rattle.std.specs.Prelude.{◌≡◌, ◌⊎◌, ◌↔◌, ◌++◌, ◌≤◌, ℕ, Bool, true, false, List, [], ◌∷◌, map, length, Option, Some, None, slice_get, Result, Ok, Err}
+use Rattle.std.specs.Prelude.{◌≡◌, ◌⊎◌, ◌↔◌, ◌++◌, ◌≤◌, ℕ, Bool, true, false, List, [], ◌∷◌, map, Option, Some, None, Result, Ok, Err}
 use Rattle.mz_tree.specs.Plain.{Ty, Atom, Unknown_type, Has_atom, Same_atom}
 use Rattle.mz_tree.specs.View.{plain_atom, plain_ty}
 use Rattle.mz_tree.specs.declared.types.Ty.{Ty as CodeTy}
@@ -15,7 +15,7 @@ use Rattle.mz_deriv.specs.View.{plain_item}
 use Rattle.mz_view.specs.Steps.{Step}
 use Rattle.mz_index.specs.Finding.{IsFirst, NoneFits, InClass}
 use Rattle.mz_goal.specs.Needs.{Need, Needs, Unmet, FirstUnmet}
-use Rattle.mz_elab.specs.Joins.{End, for_value, with_state, AllNeed, NotAllNeed, Gives, InEach, IsCommon, IsLeast, OuterType, OfData, IsRestored, Restores, InAll, OutOfAll, IsShared, LeavesAll, Shares, Values}
+use Rattle.mz_elab.specs.Joins.{End, for_value, AllNeed, NotAllNeed, Gives, InEach, IsCommon, IsLeast, OuterType, OfData, IsRestored, Restores, InAll, OutOfAll, IsShared, LeavesAll, Shares, Values}
 use Rattle.mz_elab.specs.Lacking.{FirstLacks, GivesLack}
 use Rattle.mz_elab.specs.Scripting.{Shown, sees}
 use Rattle.mz_elab.specs.Sought.{FirstAt}

@@ -3,7 +3,7 @@
 -- The state to which a script leads holds what the guided state does. Of what is duplicable it may hold more, and some less
 -- often: a step that copies a permission isn't written, nor one that drops a duplicable permission. So a reader sees the
 -- steps alone that say something new.
-use Rattle.std.specs.Prelude.{◌≡◌, ◌++◌, ℕ, List, [], ◌∷◌, map}
+use Rattle.std.specs.Prelude.{◌++◌, ℕ, List, [], ◌∷◌, map}
 use Rattle.mz_tree.specs.Plain.{Atom}
 use Rattle.mz_tree.specs.Code.{Command, to_of}
 use Rattle.mz_decl.specs.Declarations.{Decls}

@@ -1,6 +1,5 @@
 -- What the code leaves out of view steps, and what it writes.
 use Rattle.std.specs.Prelude.{◌≡◌, ◌⊎◌, ◌++◌, ◌∷◌, [], ℕ, List, map, reverse}
-use Rattle.mz_tree.specs.Plain.{Atom}
 use Rattle.mz_decl.specs.Declarations.{Decls}
 use Rattle.mz_view.specs.Steps.{Step, Drop_step, Copy_step, plain_step}
 use Rattle.mz_view.specs.declared.step.ViewStep.{ViewStep}

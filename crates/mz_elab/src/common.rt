@@ -8,7 +8,11 @@ use mz_tree::Memory;
 use std::alloc::Global;
 
 // the least bound name that is of the value's class in every branch
-pub(crate) fn least_common(alloc: Global, bound: &[u32], ends: &[End]) -> Result<Option<u32>, Memory>
+pub(crate) fn least_common(
+    alloc: Global,
+    bound: &[u32],
+    ends: &[End],
+) -> Result<Option<u32>, Memory>
     ensures { IfOk result (λ it. CommonOf it bound.now (plain_ends ends.now)) }
 {
     let mut best = None;

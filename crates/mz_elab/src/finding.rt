@@ -123,7 +123,9 @@ fn is_open(decls: &Decls, ty: &Ty, con: u32) -> bool
 {
     match ty {
         Ty::Block {
-            con: found, fields, ..
+            con: found,
+            fields,
+            ..
         } => *found == con && has_fields(decls, con, fields),
         _ => false,
     }

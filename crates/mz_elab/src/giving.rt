@@ -30,7 +30,16 @@ fn meet_end(
     ensures { GoesOn (plain_decls decls.now) (IsKnown bound.now next) to (plain_atom goal.now) end.old end.new result }
 {
     let wanted = atom_with(alloc, goal, to, end.value)?;
-    if meet_goal(alloc, decls, modes, bound, next, &mut end.state, &wanted, &mut end.items)? {
+    if meet_goal(
+        alloc,
+        decls,
+        modes,
+        bound,
+        next,
+        &mut end.state,
+        &wanted,
+        &mut end.items,
+    )? {
         return Ok(());
     }
     Err(ElabFault::NoPermission {

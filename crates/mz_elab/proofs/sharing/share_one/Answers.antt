@@ -1,5 +1,5 @@
 use Rattle.mz_tree.specs.View.{plain_atom, plain_atoms}
-use Rattle.mz_elab.proofs.Shared.{no_share_outer, no_share_in, share_affine, share_spare, put_end}
+use Rattle.mz_elab.proofs.Shared.{no_share_outer, share_affine, share_spare, put_end}
 use Rattle.mz_elab.proofs.sharing.share_one.Goals as goal
 
 pub returns-then-not-atom_names : goal.returns-then-not-atom_names

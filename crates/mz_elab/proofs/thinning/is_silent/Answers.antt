@@ -1,4 +1,3 @@
-use Rattle.mz_decl.specs.Declarations.{Decls}
 use Rattle.mz_tree.specs.View.{plain_atom}
 use Rattle.mz_elab.specs.Standing.{IsKnown}
 use Rattle.mz_elab.proofs.NamedAlone.{atom_says}

@@ -1,4 +1,4 @@
-use Rattle.std.proofs.Common.{◌≡◌, ◌++◌, ◌∷◌, [], Option, MatchOption, sym, subst}
+use Rattle.std.proofs.Common.{sym, subst}
 use Rattle.mz_elab.specs.Standing.{IsKnown}
 use Rattle.mz_elab.proofs.Thin.{Keeping, keeping_start, keeping_next}
 use Rattle.mz_elab.proofs.thinning.keep.Goals as goal

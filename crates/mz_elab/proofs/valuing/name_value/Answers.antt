@@ -1,4 +1,4 @@
-use Rattle.std.proofs.Common.{Ok, Err, ap, ◌∙◌, ◌++◌, ◌∷◌, [], map, subst}
+use Rattle.std.proofs.Common.{Err, ap, ◌∙◌, ◌∷◌, [], subst}
 use Rattle.std.proofs.lemmas.List.{map-append}
 use Rattle.mz_tree.specs.Plain.{Same_atom}
 use Rattle.mz_tree.specs.View.{plain_atom, plain_atoms}
