@@ -6,8 +6,8 @@ ghost use Rattle.mz_modes.specs.Modes.{AreModes};
 ghost use Rattle.mz_elab.specs.Standing.{IsKnown};
 ghost use Rattle.mz_elab.specs.Joining.{GoesOn, AllGoOn, AllGiven};
 
-use crate::ElabFault;
 use crate::ends::End;
+use crate::fault::ElabFault;
 use crate::goals::meet_goal;
 use crate::values::atom_with;
 use mz_decl::Decls;

@@ -9,7 +9,7 @@ ghost use Rattle.mz_deriv.specs.View.{plain_item};
 ghost use Rattle.mz_elab.specs.Standing.{IsKnown};
 ghost use Rattle.mz_elab.specs.Joining.{IsUnknownGoal, MeetsGoal, MeetsGoals, SaysUnknown};
 
-use crate::ElabFault;
+use crate::fault::ElabFault;
 use crate::thinning::write_steps;
 use mz_decl::Decls;
 use mz_deriv::Item;

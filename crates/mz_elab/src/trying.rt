@@ -8,8 +8,8 @@ ghost use Rattle.mz_modes.specs.Modes.{AreModes};
 ghost use Rattle.mz_elab.specs.Standing.{IsKnown};
 ghost use Rattle.mz_elab.specs.Joining.{AllWould, Tries, Would, plain_end, plain_ends};
 
-use crate::ElabFault;
 use crate::ends::End;
+use crate::fault::ElabFault;
 use crate::giving::give;
 use crate::values::atom_with;
 use mz_decl::Decls;

@@ -10,9 +10,9 @@ ghost use Rattle.mz_elab.specs.Joins.{InEach};
 ghost use Rattle.mz_elab.specs.Sought.{FirstAt, Held_sought, IsSought};
 ghost use Rattle.mz_elab.specs.Joining.{AreOuter, HeldTy, HoldsOr, Names as NamesIt, TypeKnown, ValuesAll, plain_ends};
 
-use crate::ElabFault;
 use crate::common::least_common;
 use crate::ends::End;
+use crate::fault::ElabFault;
 use crate::finding::{Sought, first_of};
 use crate::giving::give;
 use crate::trying::try_all;
