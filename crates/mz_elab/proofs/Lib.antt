@@ -18,3 +18,4 @@ pub mod PutBack
 pub mod Shared
 pub mod Named
 pub mod Valued
+pub mod MadeNames

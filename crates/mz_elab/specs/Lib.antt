@@ -10,3 +10,4 @@ pub mod Sought
 pub mod Thinning
 pub mod Laws
 pub mod Joining
+pub mod Naming

@@ -18,6 +18,7 @@ mod finding;
 mod giving;
 mod goals;
 mod laws;
+mod naming;
 mod outer;
 mod restoring;
 mod sharing;
