@@ -19,3 +19,4 @@ pub mod Shared
 pub mod Named
 pub mod Valued
 pub mod MadeNames
+pub mod Joined

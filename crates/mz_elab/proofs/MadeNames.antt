@@ -1,20 +1,18 @@
 -- Names that were made, collected one after the other.
-use Rattle.std.proofs.Common.{◌≡◌, ◌⊎◌, ◌↔◌, ◌<◌, ◌≤◌, ◌||◌, ◌==◌, inl, inr, ℕ, suc, arith, ◌+◌, Bool, true, false, List, [], ◌∷◌, ◌++◌, length, map, take, drop, Some, slice_get, refl, sym, ap, ◌∙◌, subst}
+use Rattle.std.proofs.Common.{◌≡◌, ◌⊎◌, ◌≤◌, ◌||◌, ◌==◌, inl, inr, ℕ, ◌+◌, Bool, true, false, List, [], ◌∷◌, ◌++◌, length, drop, Some, slice_get, refl, sym, ap, ◌∙◌, subst}
 use Rattle.std.proofs.lemmas.Bool.{eq-eqb, eqb-true}
 use Rattle.std.proofs.lemmas.List.{drop_all}
 use Rattle.std.specs.List.{list_any}
-use Rattle.mz_tree.specs.Plain.{Ty, Atom, Has_atom, Same_atom}
-use Rattle.mz_tree.specs.View.{plain_atom, plain_atoms}
+use Rattle.mz_tree.specs.Plain.{Atom}
+use Rattle.mz_tree.specs.View.{plain_atoms}
 use Rattle.mz_tree.specs.declared.types.Atom.{Atom as CodeAtom}
 use Rattle.mz_perm.specs.Lists.{In}
-use Rattle.mz_perm.specs.Occurrence.{in_type, in_atom, occurs}
+use Rattle.mz_perm.specs.Occurrence.{occurs}
 use Rattle.mz_perm.proofs.Remaining.{drop_at}
-use Rattle.mz_deriv.specs.Walks.{IsOuter}
 use Rattle.mz_deriv.specs.Parts.{SameNames}
 use Rattle.mz_deriv.proofs.WrittenNames.{either, or_first, or_second}
 use Rattle.mz_elab.specs.Joining.{AreOuter}
 use Rattle.mz_elab.specs.Naming.{AddsNames}
-use Rattle.mz_elab.proofs.AllGiving.{plain_left}
 
 pub adds_none : (test : ℕ → Bool) (xs : List ℕ) → ((n : ℕ) → test n ≡ false) → AddsNames test xs xs
 adds_none test xs f n = ((λ i. inl i), (λ s. elim s [ inl i ↦ i | inr h ↦ absurd (both (test n) h.1 (f n)) ]))
@@ -32,14 +30,14 @@ adds_or p q xs ys zs a b n = (
   (λ s. elim s [
     | inl i ↦ (b n).1 (inl ((a n).1 (inl i)))
     | inr h ↦ elim (either (p n) (q n) h.1) [ inl e ↦ (b n).1 (inl ((a n).1 (inr (h.0, e)))) | inr e ↦ (b n).1 (inr (h.0, e)) ]
-  ])
+  ]),
 )
 
 -- by another test that says the same
 pub adds_by : (p q : ℕ → Bool) (xs ys : List ℕ) → ((n : ℕ) → p n ≡ q n) → AddsNames p xs ys → AddsNames q xs ys
 adds_by p q xs ys e a n = (
   (λ i. elim ((a n).0 i) [ inl j ↦ inl j | inr h ↦ inr (h.0, sym (e n) ∙ h.1) ]),
-  (λ s. (a n).1 (elim s [ inl j ↦ inl j | inr h ↦ inr (h.0, e n ∙ h.1) ]))
+  (λ s. (a n).1 (elim s [ inl j ↦ inl j | inr h ↦ inr (h.0, e n ∙ h.1) ])),
 )
 
 in_end : (a : ℕ) (xs : List ℕ) → In a (xs ++ a ∷ [])
@@ -60,7 +58,7 @@ in_either a b (x ∷ xs) (inr i) = elim (in_either a b xs i) [ inl j ↦ inl (in
 pub adds_made : (x : ℕ) (xs ys : List ℕ) → 256 ≤ x → ys ≡ xs ++ x ∷ [] → AddsNames (λ n. x == n) xs ys
 adds_made x xs ys h e n = (
   (λ i. elim (in_either n x xs (subst (In n) e i)) [ inl j ↦ inl j | inr f ↦ inr (subst (λ z. 256 ≤ z) (sym f) h, eq-eqb x n (sym f)) ]),
-  (λ s. subst (In n) (sym e) (elim s [ inl i ↦ in_front n x xs i | inr f ↦ subst (λ z. In n (xs ++ z ∷ [])) (sym (eqb-true x n f.1)) (in_end n xs) ]))
+  (λ s. subst (In n) (sym e) (elim s [ inl i ↦ in_front n x xs i | inr f ↦ subst (λ z. In n (xs ++ z ∷ [])) (sym (eqb-true x n f.1)) (in_end n xs) ])),
 )
 
 pub adds_core : (x : ℕ) (xs : List ℕ) → (256 ≤ x → ⊥) → AddsNames (λ n. x == n) xs xs
@@ -78,9 +76,9 @@ pub adding_next : {A : Type 0} (test : List A → ℕ → Bool) (one : A → ℕ
     Adding test these before i now → slice_get these i ≡ Some x → AddsNames (one x) now next → Adding test these before (i + 1) next
 adding_next test one these before i x now next split v is a = record {
   adds = λ after b. v.adds after (λ n. (
-    let r = adds_or (one x) (test (drop (i + 1) these)) now next after a b n in
-    let same : (one x n || test (drop (i + 1) these) n) ≡ test (drop i these) n = sym (split x (drop (i + 1) these) n) ∙ ap (λ l. test l n) (sym (drop_at these i x is)) in
-    ((λ j. elim (r.0 j) [ inl k ↦ inl k | inr h ↦ inr (h.0, sym same ∙ h.1) ]), (λ s. r.1 (elim s [ inl k ↦ inl k | inr h ↦ inr (h.0, same ∙ h.1) ])))));
+      let r = adds_or (one x) (test (drop (i + 1) these)) now next after a b n in
+      let same : (one x n || test (drop (i + 1) these) n) ≡ test (drop i these) n = sym (split x (drop (i + 1) these) n) ∙ ap (λ l. test l n) (sym (drop_at these i x is)) in
+      ((λ j. elim (r.0 j) [ inl k ↦ inl k | inr h ↦ inr (h.0, sym same ∙ h.1) ]), (λ s. r.1 (elim s [ inl k ↦ inl k | inr h ↦ inr (h.0, same ∙ h.1) ])))));
 }
 
 pub adding_end : {A : Type 0} (test : List A → ℕ → Bool) (these : List A) (before : List ℕ) (i : ℕ) (now : List ℕ) → ((n : ℕ) → test [] n ≡ false) → Adding test these before i now → length these ≤ i → AddsNames (test these) before now
@@ -99,5 +97,5 @@ of_codes p n = occurs n (plain_atoms p)
 pub are_outer : (bound outer names : List ℕ) (R : List (Atom ℕ)) → SameNames bound names → AddsNames (of_atoms R) bound outer → AreOuter outer names R
 are_outer bound outer names R s a n = (
   (λ i. elim ((a n).0 i) [ inl j ↦ inl ((s n).0 j) | inr h ↦ inr h ]),
-  (λ o. (a n).1 (elim o [ inl j ↦ inl ((s n).1 j) | inr h ↦ inr h ]))
+  (λ o. (a n).1 (elim o [ inl j ↦ inl ((s n).1 j) | inr h ↦ inr h ])),
 )

@@ -1,7 +1,8 @@
 -- What the code of joins keeps and answers: the branches' ends, with the items that are written for each.
 use Rattle.std.specs.Prelude.{◌≡◌, ◌⊎◌, ◌↔◌, ◌++◌, ◌≤◌, ℕ, Bool, true, false, List, [], ◌∷◌, map, Option, Some, None, Result, Ok, Err}
 use Rattle.mz_tree.specs.Plain.{Ty, Atom, Unknown_type, Has_atom, Same_atom}
-use Rattle.mz_tree.specs.View.{plain_atom, plain_ty}
+use Rattle.mz_tree.specs.View.{plain_atom, plain_atoms, plain_ty}
+use Rattle.mz_tree.specs.declared.types.Atom.{Atom as CodeAtom}
 use Rattle.mz_tree.specs.declared.types.Ty.{Ty as CodeTy}
 use Rattle.mz_tree.specs.declared.types.Place.{Place}
 use Rattle.mz_decl.specs.Declarations.{Decls}
@@ -15,7 +16,7 @@ use Rattle.mz_deriv.specs.View.{plain_item}
 use Rattle.mz_view.specs.Steps.{Step}
 use Rattle.mz_index.specs.Finding.{IsFirst, NoneFits, InClass}
 use Rattle.mz_goal.specs.Needs.{Need, Needs, Unmet, FirstUnmet}
-use Rattle.mz_elab.specs.Joins.{End, for_value, AllNeed, NotAllNeed, Gives, InEach, IsCommon, IsLeast, OuterType, OfData, IsRestored, Restores, InAll, OutOfAll, IsShared, LeavesAll, Shares, Values}
+use Rattle.mz_elab.specs.Joins.{End, for_value, AllNeed, NotAllNeed, Gives, InEach, IsCommon, IsLeast, OuterType, OfData, IsRestored, Restores, InAll, OutOfAll, IsShared, LeavesAll, Shares, Values, Joins}
 use Rattle.mz_elab.specs.Lacking.{FirstLacks, GivesLack}
 use Rattle.mz_elab.specs.Scripting.{Shown, sees}
 use Rattle.mz_elab.specs.Sought.{FirstAt}
@@ -227,3 +228,9 @@ pub record HeldAs (names : List ℕ) (R S : List (Atom ℕ)) (value : ℕ) (t : 
 abbrev pub HeldTy : List ℕ → List (Atom ℕ) → List (Atom ℕ) → ℕ → Option CodeTy → Type 0
 HeldTy names R S value None = NoneFits (InClass S value (λ u. (u ≡ Unknown_type → ⊥) × OuterType names R u)) S
 HeldTy names R S value (Some ty) = HeldAs names R S value (plain_ty ty)
+
+-- the ends join in these permissions; or what is given is wanting
+abbrev pub JoinsEnds : Decls → (ℕ → Type 0) → List ℕ → List (Atom ℕ) → ℕ → List (Atom ℕ) → List CodeEnd → List CodeEnd → Result (List CodeAtom) ElabFault → Type 0
+JoinsEnds D K names R c giving ends after (Ok join) = Joins D names R c giving (plain_ends ends) (plain_atoms join)
+JoinsEnds D K names R c giving ends after (Err (NoPermission place a)) = GivesLack D c giving (plain_ends ends) place (plain_atom a)
+JoinsEnds D K names R c giving ends after (Err Memory) = Unit {0}

@@ -7,7 +7,7 @@
 //! nothing, and that there is one first permission at most.
 //!
 //! The proposer isn't whole yet: what is here are goals in a row with the view steps that are written for them, the first
-//! permission of a sort, and the parts of a join over the ends of branches. `specs/Scripting.antt` says how a script goes along
+//! permission of a sort, and the join of the ends of branches. `specs/Scripting.antt` says how a script goes along
 //! with the guided state: steps that say nothing new aren't written.
 #![tactic(auto)]
 
@@ -17,6 +17,7 @@ mod fault;
 mod finding;
 mod giving;
 mod goals;
+mod joining;
 mod laws;
 mod naming;
 mod outer;

@@ -1,4 +1,4 @@
-use Rattle.std.proofs.Common.{◌==◌, refl, get_or}
+use Rattle.std.proofs.Common.{◌==◌, refl}
 use Rattle.std.proofs.lemmas.Option.{slice_get-get_or}
 use Rattle.mz_elab.proofs.MadeNames.{adding_next, of_names}
 use Rattle.mz_elab.proofs.naming.add_each.Goals as goal
