@@ -20,3 +20,4 @@ pub mod Named
 pub mod Valued
 pub mod MadeNames
 pub mod Joined
+pub mod DoneItems

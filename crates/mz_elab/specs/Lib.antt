@@ -11,3 +11,4 @@ pub mod Thinning
 pub mod Laws
 pub mod Joining
 pub mod Naming
+pub mod Doing

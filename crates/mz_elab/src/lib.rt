@@ -12,6 +12,7 @@
 #![tactic(auto)]
 
 mod common;
+mod doing;
 mod ends;
 mod fault;
 mod finding;
