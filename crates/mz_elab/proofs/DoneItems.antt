@@ -1,5 +1,5 @@
 -- The items of commands without branches.
-use Rattle.std.proofs.Common.{◌≡◌, ℕ, List, [], ◌∷◌, ◌++◌, map, Option, None, option_map, refl, sym, ap, ◌∙◌, subst}
+use Rattle.std.proofs.Common.{◌≡◌, ℕ, List, [], ◌∷◌, ◌++◌, map, Option, None, option_map, ap, ◌∙◌}
 use Rattle.std.proofs.lemmas.List.{map-append}
 use Rattle.mz_tree.specs.Plain.{Atom}
 use Rattle.mz_tree.specs.View.{plain_atom}
@@ -11,7 +11,6 @@ use Rattle.mz_deriv.specs.declared.script.Item.{Item as CodeItem, Do}
 use Rattle.mz_deriv.specs.declared.script.ScriptCase.{ScriptCase as CodeCase}
 use Rattle.mz_deriv.proofs.Views.{plain_do}
 use Rattle.mz_goal.specs.Needs.{Needs}
-use Rattle.mz_elab.specs.Scripting.{sees}
 use Rattle.mz_elab.specs.Joining.{Writes}
 use Rattle.mz_elab.specs.Doing.{does, Met}
 

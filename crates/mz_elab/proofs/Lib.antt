@@ -21,3 +21,4 @@ pub mod Valued
 pub mod MadeNames
 pub mod Joined
 pub mod DoneItems
+pub mod Acted

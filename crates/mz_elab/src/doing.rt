@@ -18,7 +18,11 @@ use sqlite_items::Items;
 use std::alloc::Global;
 
 // writes the item of a command
-pub(crate) fn write_do(alloc: Global, uses: Option<Atom>, items: &mut Items<Item>) -> Result<(), Memory>
+pub(crate) fn write_do(
+    alloc: Global,
+    uses: Option<Atom>,
+    items: &mut Items<Item>,
+) -> Result<(), Memory>
     ensures { IfOk result (λ _. map plain_item items.new ≡ map plain_item items.old ++ does (option_map plain_atom uses)) }
 {
     items.push(Item::Do {
@@ -59,9 +63,7 @@ pub(crate) fn meet_then_add(
     requires { AreModes (plain_decls decls.now) modes.now }
     ensures { MeetsThen (plain_decls decls.now) (IsKnown bound.now next) state.old (plain_atoms goals.now) place (plain_atom atom) state.new (map plain_item items.old) (map plain_item items.new) result }
 {
-    meet_goals(
-        alloc, decls, modes, bound, next, state, goals, place, items,
-    )?;
+    meet_goals(alloc, decls, modes, bound, next, state, goals, place, items)?;
     state.add(atom)?;
     write_do(alloc, None, items)?;
     Ok(())
