@@ -29,22 +29,23 @@ front_not x ends k e v is n i = n (subst (λ l. InEach x (plain_ends l)) (drop_a
 pub front_end : (x : ℕ) (ends : List CodeEnd) (k : ℕ) → InFront x ends k → length ends ≤ k → InEach x (plain_ends ends)
 front_end x ends k v h = v.back (subst (λ l. InEach x (plain_ends l)) (sym (drop_all k ends h)) tt)
 
--- one name more: the best is the least of all so far
-in_end : (a : ℕ) (xs : List ℕ) → In a (xs ++ a ∷ [])
+-- a name at the end of others
+pub in_end : (a : ℕ) (xs : List ℕ) → In a (xs ++ a ∷ [])
 in_end a [] = inl refl
 in_end a (x ∷ xs) = inr (in_end a xs)
 
-in_front : (a b : ℕ) (xs : List ℕ) → In a xs → In a (xs ++ b ∷ [])
+pub in_front : (a b : ℕ) (xs : List ℕ) → In a xs → In a (xs ++ b ∷ [])
 in_front a b [] i = absurd i
 in_front a b (x ∷ xs) (inl e) = inl e
 in_front a b (x ∷ xs) (inr i) = inr (in_front a b xs i)
 
-in_either : (a b : ℕ) (xs : List ℕ) → In a (xs ++ b ∷ []) → In a xs ⊎ (a ≡ b)
+pub in_either : (a b : ℕ) (xs : List ℕ) → In a (xs ++ b ∷ []) → In a xs ⊎ (a ≡ b)
 in_either a b [] (inl e) = inr e
 in_either a b [] (inr i) = absurd i
 in_either a b (x ∷ xs) (inl e) = inl (inl e)
 in_either a b (x ∷ xs) (inr i) = elim (in_either a b xs i) [ inl j ↦ inl (inr j) | inr e ↦ inr e ]
 
+-- one name more: the best is the least of all so far
 best_stays : (names : List ℕ) (ends : List End) (x : ℕ) (best : Option ℕ) → CommonOf best names ends → IsBelow best x ⊎ (InEach x ends → ⊥) → CommonOf best (names ++ x ∷ []) ends
 best_stays names ends x None c (inl b) = absurd b
 best_stays names ends x None c (inr n) = λ y i. elim (in_either y x names i.0) [ inl j ↦ c y (j, i.1) | inr e ↦ n (subst (λ z. InEach z ends) e i.1) ]

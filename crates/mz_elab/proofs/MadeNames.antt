@@ -13,6 +13,7 @@ use Rattle.mz_deriv.specs.Parts.{SameNames}
 use Rattle.mz_deriv.proofs.WrittenNames.{either, or_first, or_second}
 use Rattle.mz_elab.specs.Joining.{AreOuter}
 use Rattle.mz_elab.specs.Naming.{AddsNames}
+use Rattle.mz_elab.proofs.EachClass.{in_end, in_front, in_either}
 
 pub adds_none : (test : ℕ → Bool) (xs : List ℕ) → ((n : ℕ) → test n ≡ false) → AddsNames test xs xs
 adds_none test xs f n = ((λ i. inl i), (λ s. elim s [ inl i ↦ i | inr h ↦ absurd (both (test n) h.1 (f n)) ]))
@@ -39,21 +40,6 @@ adds_by p q xs ys e a n = (
   (λ i. elim ((a n).0 i) [ inl j ↦ inl j | inr h ↦ inr (h.0, sym (e n) ∙ h.1) ]),
   (λ s. (a n).1 (elim s [ inl j ↦ inl j | inr h ↦ inr (h.0, e n ∙ h.1) ])),
 )
-
-in_end : (a : ℕ) (xs : List ℕ) → In a (xs ++ a ∷ [])
-in_end a [] = inl refl
-in_end a (x ∷ xs) = inr (in_end a xs)
-
-in_front : (a b : ℕ) (xs : List ℕ) → In a xs → In a (xs ++ b ∷ [])
-in_front a b [] i = absurd i
-in_front a b (x ∷ xs) (inl e) = inl e
-in_front a b (x ∷ xs) (inr i) = inr (in_front a b xs i)
-
-in_either : (a b : ℕ) (xs : List ℕ) → In a (xs ++ b ∷ []) → In a xs ⊎ (a ≡ b)
-in_either a b [] (inl e) = inr e
-in_either a b [] (inr i) = absurd i
-in_either a b (x ∷ xs) (inl e) = inl (inl e)
-in_either a b (x ∷ xs) (inr i) = elim (in_either a b xs i) [ inl j ↦ inl (inr j) | inr e ↦ inr e ]
 
 pub adds_made : (x : ℕ) (xs ys : List ℕ) → 256 ≤ x → ys ≡ xs ++ x ∷ [] → AddsNames (λ n. x == n) xs ys
 adds_made x xs ys h e n = (

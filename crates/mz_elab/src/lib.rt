@@ -7,8 +7,8 @@
 //! nothing, and that there is one first permission at most.
 //!
 //! The proposer isn't whole yet: what is here are goals in a row with the view steps that are written for them, the first
-//! permission of a sort, commands that look for none, and the join of the ends of branches. `specs/Scripting.antt` says how a script goes along
-//! with the guided state: steps that say nothing new aren't written.
+//! permission of a sort, commands that look for none, and the join of the ends of branches. `specs/Scripting.antt` says how a
+//! script goes along with the guided state: steps that say nothing new aren't written.
 #![tactic(auto)]
 
 mod acting;
