@@ -1,6 +1,6 @@
 //! One command without branches that looks for nothing: what the guided rules do for it.
 ghost use Rattle.std.specs.Prelude.{◌≡◌, ◌<◌, ◌∷◌, [], IfOk, length};
-ghost use Rattle.mz_tree.specs.Code.{Int_op, Unit_op, Fun_op, Copy_op, Arith_op, New_op, Print_op};
+ghost use Rattle.mz_tree.specs.Code.{Int_op, Unit_op, Fun_op, Copy_op, Arith_op, New_lock_op, New_op, Print_op};
 ghost use Rattle.mz_tree.specs.Plain.{Has_atom, Int_type};
 ghost use Rattle.mz_tree.specs.View.{plain_atom, plain_atoms};
 ghost use Rattle.mz_tree.specs.declared.code.Arith.{Arith};
@@ -209,5 +209,31 @@ pub(crate) fn print(
         place,
         added,
         items,
+    )
+}
+
+// a new lock: what it guards is given
+pub(crate) fn make_lock(
+    alloc: Global,
+    decls: &Decls,
+    modes: &Modes,
+    bound: &[u32],
+    next: u32,
+    state: &mut Indexed,
+    to: u32,
+    guarded: &Atoms,
+    place: Place,
+    items: &mut Items<Item>,
+) -> Result<(), ElabFault>
+    requires { AreModes (plain_decls decls.now) modes.now }
+    ensures { ActsOr (plain_decls decls.now) state.old next to (New_lock_op (plain_atoms guarded.now)) place state.new next result }
+{
+    let lock = Atom::Has {
+        name: to,
+        ty: Ty::Lock(guarded.copy(alloc)?),
+    };
+    let goals = guarded.as_slice();
+    meet_then_add(
+        alloc, decls, modes, bound, next, state, goals, place, lock, items,
     )
 }
