@@ -99,7 +99,7 @@ fn meet_unknown(state: &Indexed, goal: &Atom, items: &mut Items<Item>) -> Result
 }
 
 // the name of which a permission speaks
-fn subject(atom: &Atom) -> u32
+pub(crate) fn subject(atom: &Atom) -> u32
     ensures { result ≡ subject_of (plain_atom atom.now) }
 {
     match atom {

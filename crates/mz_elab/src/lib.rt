@@ -21,6 +21,7 @@ mod giving;
 mod goals;
 mod joining;
 mod laws;
+mod lending;
 mod naming;
 mod outer;
 mod restoring;
