@@ -22,3 +22,7 @@ pub mod MadeNames
 pub mod Joined
 pub mod DoneItems
 pub mod Acted
+pub mod Walked
+pub mod Forked
+pub mod Tested
+pub mod Matched

@@ -154,7 +154,7 @@ pub(crate) fn compute(
 }
 
 // a name is held as an integer
-fn number(name: u32) -> Atom
+pub(crate) fn number(name: u32) -> Atom
     ensures { plain_atom result ≡ Has_atom name Int_type }
 {
     Atom::Has { name, ty: Ty::Int }

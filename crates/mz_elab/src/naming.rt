@@ -24,7 +24,7 @@ pub(crate) fn outer_names(alloc: Global, bound: &[u32], before: &Indexed) -> Res
     Ok(outer)
 }
 
-fn copied(alloc: Global, names: &[u32]) -> Result<Names, Memory>
+pub(crate) fn copied(alloc: Global, names: &[u32]) -> Result<Names, Memory>
     ensures { IfOk result (λ it. it ≡ names.now) }
 {
     let mut all = Items::new(alloc);
