@@ -50,8 +50,8 @@ pub fn check_derivation(
     Ok(())
 }
 
-// the declarations, which are lawful
-fn lawful_decls(alloc: Global, program: &Program) -> Result<Decls, Memory>
+/// The declarations of a program that is declared; the refusal says that memory is wanting.
+pub fn lawful_decls(alloc: Global, program: &Program) -> Result<Decls, Memory>
     requires scoped { Scoped (plain_program program.now) }
     requires declared { IsFirst (IsImmutableAdopter (plain_program program.now)) None }
     ensures { IfOk result (λ it. plain_decls it ≡ decls_of (plain_program program.now)) }
@@ -63,8 +63,8 @@ fn lawful_decls(alloc: Global, program: &Program) -> Result<Decls, Memory>
     }
 }
 
-// their modes, which are lawful
-fn lawful_modes(alloc: Global, decls: &Decls) -> Result<Modes, Memory>
+/// Their modes, where each `adopts` names what is mutable; the refusal says that memory is wanting.
+pub fn lawful_modes(alloc: Global, decls: &Decls) -> Result<Modes, Memory>
     requires { IsFirst (IsNotExclusive (plain_decls decls.now)) None }
     ensures { IfOk result (λ it. AreModes (plain_decls decls.now) it) }
 {

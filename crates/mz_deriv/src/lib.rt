@@ -29,10 +29,12 @@ mod rule;
 mod script;
 mod walk;
 
-pub use check::{check_derivation, check_fun};
+pub use check::{check_derivation, check_fun, lawful_decls, lawful_modes};
 pub use fault::DerivFault;
+pub use join::state_of;
 pub use laws::{
     at_most_one_refusal, at_most_one_refusal_of_a_fun, leads_to_one, no_derivation_is_refused,
     no_walk_of_a_fun_is_refused, order_is_free,
 };
+pub use owing::owed;
 pub use script::{Derivation, Item, Script, ScriptCase, ScriptCases, Scripts};

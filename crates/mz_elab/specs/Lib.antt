@@ -13,3 +13,4 @@ pub mod Joining
 pub mod Naming
 pub mod Doing
 pub mod Walking
+pub mod Elaborating

@@ -1,5 +1,5 @@
 //! The branches of a command join: the state behind it, and the item that is written for it.
-ghost use Rattle.std.specs.Prelude.{◌≡◌, IfOk, reverse};
+ghost use Rattle.std.specs.Prelude.{reverse};
 ghost use Rattle.mz_tree.specs.View.{plain_atoms};
 ghost use Rattle.mz_decl.specs.View.{plain_decls};
 ghost use Rattle.mz_modes.specs.Modes.{AreModes};
@@ -10,11 +10,10 @@ use crate::ends::End;
 use crate::fault::ElabFault;
 use crate::joining::join_ends;
 use mz_decl::Decls;
-use mz_deriv::{Item, Script, ScriptCase, ScriptCases};
+use mz_deriv::{Item, Script, ScriptCase, ScriptCases, state_of};
 use mz_index::Indexed;
 use mz_modes::Modes;
-use mz_perm::State;
-use mz_tree::{Alike, Atom, Atoms, Memory};
+use mz_tree::{Atom, Atoms, Memory};
 use sqlite_items::Items;
 use std::alloc::Global;
 
@@ -48,20 +47,9 @@ pub(crate) fn join_in(
         giving,
         left.as_mut_slice(),
     )?;
-    *state = state_of(alloc, join.as_slice())?;
+    *state = Indexed::from_state(alloc, state_of(alloc, join.as_slice())?)?;
     write_join(alloc, left, uses, join, items)?;
     Ok(())
-}
-
-// the state that holds these permissions
-fn state_of(alloc: Global, atoms: &[Atom]) -> Result<Indexed, Memory>
-    ensures { IfOk result (λ it. it ≡ plain_atoms atoms.now) }
-{
-    let mut state = Indexed::from_state(alloc, State::new(alloc))?;
-    for i in 0..atoms.len() {
-        state.add(atoms[i].copy(alloc)?)?;
-    }
-    Ok(state)
 }
 
 // writes the item of the command, with a case for each branch

@@ -14,6 +14,7 @@
 mod acting;
 mod common;
 mod doing;
+mod elaborating;
 mod ends;
 mod fault;
 mod finding;
@@ -37,4 +38,6 @@ mod values;
 mod valuing;
 mod walking;
 
+pub use elaborating::elaborate;
+pub use fault::ElabFault;
 pub use laws::{at_most_one_is_wanting, leads_to_one_list, nothing_guided_lacks};
