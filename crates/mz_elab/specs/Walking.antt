@@ -1,6 +1,6 @@
 -- What the walk answers of commands, branches and bodies.
 use Rattle.std.specs.Prelude.{◌≡◌, ◌⊎◌, ℕ, ◌+◌, List, [], ◌∷◌, Some, Result, Ok, Err, Vec, length, slice_get}
-use Rattle.std.specs.Alloc.{Global}
+use Rattle.std.proofs.Common.{Global}
 use Rattle.mz_tree.specs.Plain.{Atom}
 use Rattle.mz_tree.specs.Code.{Body, Case, Command, to_of, op_of, place_of, commands_in, body_of, con_of}
 use Rattle.mz_tree.specs.Programs.{Con}

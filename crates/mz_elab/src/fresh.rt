@@ -1,5 +1,5 @@
 //! Fresh names.
-ghost use Rattle.std.specs.Prelude.{◌≡◌, ◌×◌, ◌+◌, IfOk};
+ghost use Rattle.std.specs.Prelude.{◌≡◌, ◌+◌, IfOk};
 ghost use Rattle.mz_decl.specs.Contents.{names_from};
 
 use mz_tree::{Memory, Names};
@@ -14,6 +14,5 @@ pub(crate) struct Fresh {
 pub(crate) fn fresh_names(alloc: Global, next: u32, count: usize) -> Result<Fresh, Memory>
     ensures { IfOk result (λ it. (it.names ≡ names_from next count) × (it.next ≡ next + count)) }
 {
-    let _ = (alloc, next, count);
     Err(Memory)
 }

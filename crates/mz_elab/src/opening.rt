@@ -2,8 +2,8 @@
 //!
 //! Where a name is looked for under which the block is held, the script has to bring the permission under the name that the
 //! command uses; each branch then begins with bringing it back.
-ghost use Rattle.std.specs.Prelude.{◌≡◌, Some, slice_get, IfOk, ◌∷◌, [], List};
-ghost use Rattle.mz_tree.specs.Plain.{Atom as PlainAtom, Has_atom, Named_type, Int_type};
+ghost use Rattle.std.specs.Prelude.{◌≡◌, ℕ, Some, slice_get, IfOk, List};
+ghost use Rattle.mz_tree.specs.Plain.{Atom as PlainAtom, Has_atom, Named_type};
 ghost use Rattle.mz_decl.specs.View.{plain_decls};
 ghost use Rattle.mz_modes.specs.Modes.{AreModes};
 ghost use Rattle.mz_elab.specs.Scoping.{IsCon};
@@ -33,6 +33,5 @@ pub(crate) fn open_con(
     requires con { IsCon (plain_decls decls.now) con }
     ensures { (put : List (PlainAtom ℕ) → List (PlainAtom ℕ)) → PutsIn (plain_decls decls.now) state.old place number put → IfOk result (λ it. OpensCon (plain_decls decls.now) name number con next put state.new it) }
 {
-    let _ = (alloc, decls, modes, next, state, place, name, number, con);
     Err(Memory)
 }

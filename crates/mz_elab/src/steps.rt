@@ -34,6 +34,5 @@ pub(crate) fn act(
     requires straight { op_branches (plain_op op.now) ≡ false }
     ensures { ActsOr (plain_decls decls.now) state.old next.old to (plain_op op.now) place state.new next.new result }
 {
-    let _ = (alloc, decls, modes, bound, next, state, to, op, place, items);
     Err(ElabFault::Memory)
 }
