@@ -80,28 +80,28 @@ pub record CasesSo (D : Decls) (names : List ℕ) (n : ℕ) (branches : List Ope
   pub guided : (more : List End) (m : ℕ) → GuidedAll D names k left more m → GuidedAll D names n branches (plain_ends ends ++ more) m
   pub lacks : (place : Place) (a : Atom ℕ) → LacksIn D names k left place a → LacksIn D names n branches place a
 
-module _ (D : Decls) (names : List ℕ) (n : ℕ) (open : CodeCase → Opening) (cases : List CodeCase) where
-  pub cases_start : CasesSo D names n (map open cases) [] n (map open (drop 0 cases))
+module _ (D : Decls) (names : List ℕ) (n : ℕ) (start : CodeCase → Opening) (cases : List CodeCase) where
+  pub cases_start : CasesSo D names n (map start cases) [] n (map start (drop 0 cases))
   cases_start = record { guided = λ more m g. g; lacks = λ place a l. l }
 
-  module _ (ends : List CodeEnd) (i k : ℕ) (c : CodeCase) (w : i < length cases) (h : c ≡ get_or cases i c) (so : CasesSo D names n (map open cases) ends k (map open (drop i cases))) where
-    left_so : map open (drop i cases) ≡ open c ∷ map open (drop (i + 1) cases)
-    left_so = next_of open cases i c w h
+  module _ (ends : List CodeEnd) (i k : ℕ) (c : CodeCase) (w : i < length cases) (h : c ≡ get_or cases i c) (so : CasesSo D names n (map start cases) ends k (map start (drop i cases))) where
+    left_so : map start (drop i cases) ≡ start c ∷ map start (drop (i + 1) cases)
+    left_so = next_of start cases i c w h
 
-    pub cases_next : (m : ℕ) (e : CodeEnd) (later : List CodeEnd) → WalksTo D names ((open c).begins k) (k + (open c).takes) (open c).body m e → later ≡ ends ++ e ∷ [] → CasesSo D names n (map open cases) later m (map open (drop (i + 1) cases))
+    pub cases_next : (m : ℕ) (e : CodeEnd) (later : List CodeEnd) → WalksTo D names ((start c).begins k) (k + (start c).takes) (start c).body m e → later ≡ ends ++ e ∷ [] → CasesSo D names n (map start cases) later m (map start (drop (i + 1) cases))
     cases_next m e later walked is = record {
-      guided = λ more p g. subst (λ l. GuidedAll D names n (map open cases) l p) (sym (joined more)) (so.guided (plain_end e ∷ more) p (subst (λ l. GuidedAll D names k l (plain_end e ∷ more) p) (sym left_so) (first_walked D names k (open c) (map open (drop (i + 1) cases)) m e more p walked g)));
-      lacks = λ place a l. so.lacks place a (subst (λ bs. LacksIn D names k bs place a) (sym left_so) (next_lacks D names k (open c) (map open (drop (i + 1) cases)) m e place a walked l));
+      guided = λ more p g. subst (λ l. GuidedAll D names n (map start cases) l p) (sym (joined more)) (so.guided (plain_end e ∷ more) p (subst (λ l. GuidedAll D names k l (plain_end e ∷ more) p) (sym left_so) (first_walked D names k (start c) (map start (drop (i + 1) cases)) m e more p walked g)));
+      lacks = λ place a l. so.lacks place a (subst (λ bs. LacksIn D names k bs place a) (sym left_so) (next_lacks D names k (start c) (map start (drop (i + 1) cases)) m e place a walked l));
     }
       where
         joined : (more : List End) → plain_ends later ++ more ≡ plain_ends ends ++ plain_end e ∷ more
         joined more = ap (λ l. plain_ends l ++ more) is ∙ ap (λ l. l ++ more) (map-append plain_end ends (e ∷ [])) ∙ append_assoc (plain_ends ends) (plain_end e ∷ []) more
 
-    pub cases_lack : (place : Place) (a : Atom ℕ) → Lacks D names ((open c).begins k) (k + (open c).takes) (commands_in (open c).body) place a → LacksIn D names n (map open cases) place a
-    cases_lack place a l = so.lacks place a (subst (λ bs. LacksIn D names k bs place a) (sym left_so) (first_lacks D names k (open c) (map open (drop (i + 1) cases)) place a l))
+    pub cases_lack : (place : Place) (a : Atom ℕ) → Lacks D names ((start c).begins k) (k + (start c).takes) (commands_in (start c).body) place a → LacksIn D names n (map start cases) place a
+    cases_lack place a l = so.lacks place a (subst (λ bs. LacksIn D names k bs place a) (sym left_so) (first_lacks D names k (start c) (map start (drop (i + 1) cases)) place a l))
 
-  pub cases_end : (ends : List CodeEnd) (i k : ℕ) → length cases ≤ i → CasesSo D names n (map open cases) ends k (map open (drop i cases)) → GuidedAll D names n (map open cases) (plain_ends ends) k
-  cases_end ends i k w so = subst (λ l. GuidedAll D names n (map open cases) l k) (append-nil (plain_ends ends)) (so.guided [] k (subst (λ bs. GuidedAll D names k bs [] k) (sym (none_of open cases i w)) (Guided_none names k)))
+  pub cases_end : (ends : List CodeEnd) (i k : ℕ) → length cases ≤ i → CasesSo D names n (map start cases) ends k (map start (drop i cases)) → GuidedAll D names n (map start cases) (plain_ends ends) k
+  cases_end ends i k w so = subst (λ l. GuidedAll D names n (map start cases) l k) (append-nil (plain_ends ends)) (so.guided [] k (subst (λ bs. GuidedAll D names k bs [] k) (sym (none_of start cases i w)) (Guided_none names k)))
 
 -- ---- one case
 
