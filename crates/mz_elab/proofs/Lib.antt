@@ -26,3 +26,4 @@ pub mod Walked
 pub mod Forked
 pub mod Tested
 pub mod Matched
+pub mod FromScoped
