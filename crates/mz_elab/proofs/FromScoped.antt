@@ -2,16 +2,16 @@
 -- declarations are lawful.
 use Rattle.std.specs.Prelude.{IfSome}
 use Rattle.std.proofs.Common.{◌≡◌, ◌⊎◌, inl, inr, ◌==◌, ℕ, zero, suc, ◌+◌, ◌<◌, ◌≤◌, cond, Bool, true, false, List, [], ◌∷◌, length, map, Option, Some, None, slice_get, refl, sym, ap, ◌∙◌, subst, arith}
-use Rattle.std.specs.List.{list_any, range_with_len, filter, count_by}
+use Rattle.std.specs.List.{list_any, range_with_len, filter}
 use Rattle.std.proofs.lemmas.Bool.{cases_Bool}
 use Rattle.std.proofs.lemmas.List.{length-map}
 use Rattle.std.proofs.lemmas.List.Sums.{length-filter}
 use Rattle.mz_tree.specs.Plain.{Ty, Atom, Atoms, Int_type, Unknown_type, Dynamic_type, Locked_type, Named_type, Function_type, Block_type, Lock_type, Has_atom, Same_atom, No_atoms, More_atoms}
-use Rattle.mz_tree.specs.Code.{Op, Command, Commands, Case, Cases, Body, Int_op, Unit_op, Fun_op, Copy_op, Arith_op, New_op, Read_op, Write_op, Retag_op, If_op, Match_op, Call_op, Give_op, Take_op, New_lock_op, Acquire_op, Release_op, Spawn_op, Print_op, The_command, No_commands, More_commands, The_case, No_cases, More_cases, The_body, case_list, con_of}
-use Rattle.mz_tree.specs.Programs.{Variety, Con, Field, Need, Sig, Fun, Program}
+use Rattle.mz_tree.specs.Code.{Op, Commands, Case, Cases, Body, Int_op, Unit_op, Fun_op, Copy_op, Arith_op, New_op, Read_op, Write_op, Retag_op, If_op, Match_op, Call_op, Give_op, Take_op, New_lock_op, Acquire_op, Release_op, Spawn_op, Print_op, The_command, No_commands, More_commands, The_case, No_cases, More_cases, The_body, case_list, con_of}
+use Rattle.mz_tree.specs.Programs.{Variety, Need, Fun, Program}
 use Rattle.mz_tree.specs.Scoped.{Each, Bound, Scope, IsBound, AreBound, names_below, names_after, after_commands, after_op, after_cases, case_cons, HasField, HasFields, IsConOf, FitsType, FitsAtom, FitsAtoms, IsAtomWithin, AreAtomsWithin, AreAll, function_in, bound_by, with_bound, IsBody, AreCommands, IsOp, AreCases, Scoped}
 use Rattle.mz_decl.specs.Contents.{names_from}
-use Rattle.mz_decl.specs.Declarations.{Decls, decls_of, clause_of, clause_in}
+use Rattle.mz_decl.specs.Declarations.{decls_of, clause_of, clause_in}
 use Rattle.mz_modes.specs.Adopted.{Declared, At_declaration}
 use Rattle.mz_modes.specs.Affine.{IsMutable, AffineAtom}
 use Rattle.mz_perm.specs.Lists.{In}
@@ -194,7 +194,7 @@ module _ (p : Program) where
           let new : n ≤ to = omega (arith, is, up) in (
             (omega (arith, is, more, few), λ i. (let b = l.below to i in omega (arith, b, new)), op_scoped scope names n to op l new (omega (arith, more, few)) k.0.1),
             commands_scoped (with_bound p spelling scope (The_command to op place)) (to ∷ names) (after_op n op + 1) value rest
-            (subst (λ m. Listed (bound_by p spelling to op ∷ scope) (to ∷ names) (m + 1)) is (one_more scope names n to (function_in p spelling to op) new l)) few k.1,
+                (subst (λ m. Listed (bound_by p spelling to op ∷ scope) (to ∷ names) (m + 1)) is (one_more scope names n to (function_in p spelling to op) new l)) few k.1,
           )
 
       op_scoped : (scope : Scope) (names : List ℕ) (n to : ℕ) (op : Op) → Listed scope names n → n ≤ to → after_op n op ≤ 256 → IsOp p spelling scope n to op → ScopedOp (decls_of p) names to op

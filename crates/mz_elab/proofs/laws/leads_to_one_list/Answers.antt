@@ -1,4 +1,3 @@
-use Rattle.mz_elab.proofs.FromScoped.{fun_scoped, lawful}
 use Rattle.mz_elab.proofs.OneWay.{guided_same}
 use Rattle.mz_elab.proofs.laws.leads_to_one_list.Goals as goal
 
