@@ -27,3 +27,4 @@ pub mod Forked
 pub mod Tested
 pub mod Matched
 pub mod CaseAt
+pub mod FromScoped

@@ -1,10 +1,11 @@
 -- What the walk of a body asks of its commands: their own names are new core names, and the names that they use are bound
 -- before them. It holds of every program that was read.
-use Rattle.std.specs.Prelude.{◌≡◌, ◌<◌, true, ℕ, List, [], ◌∷◌, length, Some, slice_get}
+use Rattle.std.specs.Prelude.{◌≡◌, ◌<◌, ◌≤◌, true, ℕ, List, [], ◌∷◌, length, Some, slice_get}
 use Rattle.mz_tree.specs.Plain.{Atom}
 use Rattle.mz_tree.specs.Code.{Op, Command, Commands, Case, Cases, Body, Int_op, Unit_op, Fun_op, Copy_op, Arith_op, New_op, Read_op, Write_op, Retag_op, If_op, Match_op, Call_op, Give_op, Take_op, New_lock_op, Acquire_op, Release_op, Spawn_op, Print_op, The_command, No_commands, More_commands, The_case, No_cases, More_cases, The_body, case_list, con_of, to_of}
-use Rattle.mz_tree.specs.Programs.{Con}
-use Rattle.mz_decl.specs.Declarations.{Decls}
+use Rattle.mz_tree.specs.Programs.{Con, Sig, Fun, Program}
+use Rattle.mz_decl.specs.Declarations.{Decls, decls_of}
+use Rattle.mz_decl.specs.Signatures.{parameters}
 use Rattle.mz_perm.specs.Lists.{In}
 use Rattle.mz_perm.specs.Occurrence.{in_atom}
 use Rattle.mz_flow.specs.Branches.{cases_at}
@@ -82,3 +83,10 @@ abbrev mutual
 abbrev pub AllScoped : Decls → List ℕ → List Command → Type 0
 AllScoped D names [] = Unit {0}
 AllScoped D names (c ∷ commands) = ScopedCommand D names c × AllScoped D (to_of c ∷ names) commands
+
+-- the body of a function of a program is scoped, where its parameters are bound
+pub record FunScoped (p : Program) (f : Fun) : Type 0 where
+  pub sig : Sig
+  pub signed : slice_get (decls_of p).sigs f.sig ≡ Some sig
+  pub body : ScopedBody (decls_of p) (parameters sig) f.body
+  pub few : sig.count ≤ 32
