@@ -27,4 +27,5 @@ pub mod Forked
 pub mod Tested
 pub mod Matched
 pub mod CaseAt
+pub mod JoinsIn
 pub mod FromScoped

@@ -2,7 +2,7 @@
 use Rattle.std.proofs.Common.{◌≡◌, ◌⊎◌, inl, inr, ℕ, ◌+◌, ◌<◌, ◌≤◌, List, [], ◌∷◌, ◌++◌, map, drop, length, get_or, Result, Ok, Err, Some, Vec, Global, slice_get, refl, sym, ap, ◌∙◌, subst, arith}
 use Rattle.std.proofs.lemmas.List.{map-append, append_assoc, append-nil}
 use Rattle.mz_tree.specs.Plain.{Atom, Ty, Named_type, Has_atom}
-use Rattle.mz_tree.specs.Code.{Body, Case, Command, Match_op, The_command, to_of, op_of, place_of, commands_in, case_list, cases_of, con_of, body_of}
+use Rattle.mz_tree.specs.Code.{Body, Case, Command, Match_op, The_command, The_case, to_of, op_of, place_of, commands_in, case_list, cases_of, con_of, body_of}
 use Rattle.mz_tree.specs.Programs.{Con}
 use Rattle.mz_tree.specs.View.{plain_atom, plain_case, plain_cases}
 use Rattle.mz_tree.specs.declared.types.Place.{Place}
@@ -31,7 +31,7 @@ cases_listed (c ∷ cases) = ap (λ l. c ∷ l) (cases_listed cases)
 
 -- the first of a sort, with the name and the type that it has
 module _ (D : Decls) (names : List ℕ) (R : List (Atom ℕ)) (n to y d : ℕ) (cases : List Case) (giving : List (Atom ℕ)) (place : Place) where
-  command : Command
+  abbrev pub command : Command
   command = The_command to (Match_op y d (cases_of cases) giving) place
 
   -- nothing of the data type is held
@@ -40,7 +40,7 @@ module _ (D : Decls) (names : List ℕ) (R : List (Atom ℕ)) (n to y d : ℕ) (
 
   -- the constructor is known
   module _ (at : ℕ) (f : IsFirstAt R y (BlockIn D d) at) (j : ℕ) (k : Case) (its : IsFirst (λ (c : Case). con_of c ≡ f.first.fits.fits.con) cases j k) where
-    its_branch : List Opening
+    abbrev pub its_branch : List Opening
     its_branch = begin_with R (body_of k) ∷ []
 
     opens_known : OpensIn D R (op_of command) its_branch
@@ -54,7 +54,7 @@ module _ (D : Decls) (names : List ℕ) (R : List (Atom ℕ)) (n to y d : ℕ) (
 
   -- the data type alone is
   module _ (alone : NoneFits (InClass R y (BlockIn D d)) R) (at : ℕ) (f : IsFirstAt R y (λ t. t ≡ Named_type d) at) (put : List (Atom ℕ) → List (Atom ℕ)) (puts : PutsIn D R at d put) where
-    each_branch : List Opening
+    abbrev pub each_branch : List Opening
     each_branch = map (open_case D f.first.fits.name d put R) cases
 
     opens_each : OpensIn D R (op_of command) each_branch
