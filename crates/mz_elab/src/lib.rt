@@ -12,11 +12,13 @@
 #![tactic(auto)]
 
 mod acting;
+mod blocks;
 mod common;
 mod doing;
 mod ends;
 mod fault;
 mod finding;
+mod fresh;
 mod giving;
 mod goals;
 mod joining;
