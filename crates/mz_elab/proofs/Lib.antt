@@ -29,3 +29,5 @@ pub mod Matched
 pub mod CaseAt
 pub mod JoinsIn
 pub mod FromScoped
+pub mod Inserted
+pub mod Found

@@ -14,3 +14,4 @@ pub mod Naming
 pub mod Doing
 pub mod Walking
 pub mod Elaborating
+pub mod Finding

@@ -12,6 +12,7 @@
 #![tactic(auto)]
 
 mod acting;
+mod blocks;
 mod common;
 mod doing;
 mod elaborating;
