@@ -28,6 +28,7 @@ pub mod Tested
 pub mod Matched
 pub mod CaseAt
 pub mod JoinsIn
+pub mod ScopedCases
 pub mod FromScoped
 pub mod Inserted
 pub mod Found

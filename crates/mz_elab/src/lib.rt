@@ -31,6 +31,7 @@ mod naming;
 mod opening;
 mod outer;
 mod restoring;
+mod scoping;
 mod sharing;
 mod steps;
 mod thinning;

@@ -9,6 +9,8 @@ ghost use Rattle.mz_modes.specs.Modes.{AreModes};
 ghost use Rattle.mz_elab.specs.Scoping.{IsCon};
 ghost use Rattle.mz_elab.specs.Walking.{OpensCon, PutsIn};
 
+use crate::blocks::open_in;
+use crate::fresh::fresh_names;
 use mz_decl::Decls;
 use mz_index::Indexed;
 use mz_modes::Modes;
@@ -33,5 +35,22 @@ pub(crate) fn open_con(
     requires con { IsCon (plain_decls decls.now) con }
     ensures { (put : List (PlainAtom ℕ) → List (PlainAtom ℕ)) → PutsIn (plain_decls decls.now) state.old place number put → IfOk result (λ it. OpensCon (plain_decls decls.now) name number con next put state.new it) }
 {
-    Err(Memory)
+    match decls.con_at(con) {
+        None => Err(Memory),
+        Some(made) => {
+            let fresh = fresh_names(alloc, next, made.fields.len())?;
+            open_in(
+                alloc,
+                decls,
+                modes,
+                state,
+                place,
+                name,
+                number,
+                con,
+                &fresh.names,
+            )?;
+            Ok(fresh.next)
+        }
+    }
 }

@@ -22,6 +22,7 @@ use crate::joins::join_in;
 use crate::matching::{begin_known, begin_opened, case_of, con_at, use_at};
 use crate::naming::copied;
 use crate::opening::open_con;
+use crate::scoping::{case_is_scoped, match_is_scoped};
 use crate::steps::act;
 use mz_decl::Decls;
 use mz_deriv::Item;
@@ -164,21 +165,26 @@ fn go(
             variety,
             cases,
             giving,
-        } => go_match(
-            alloc,
-            cases.as_slice(),
-            decls,
-            modes,
-            bound,
-            next,
-            state,
-            command.to,
-            *block,
-            *variety,
-            giving.as_slice(),
-            command.place,
-            items,
-        ),
+        } => {
+            let cases = cases.as_slice();
+            let giving = giving.as_slice();
+            match_is_scoped(decls, bound, command, *block, *variety, cases, giving);
+            go_match(
+                alloc,
+                cases,
+                decls,
+                modes,
+                bound,
+                next,
+                state,
+                command.to,
+                *block,
+                *variety,
+                giving,
+                command.place,
+                items,
+            )
+        }
         _ => act(
             alloc,
             decls,
@@ -288,11 +294,11 @@ fn match_known(
 {
     let before = state.copy(alloc)?;
     let own = subject(before.at(at));
-    let used = use_at(
-        alloc, decls, modes, bound, *next, &before, at, block, items,
-    )?;
+    let used = use_at(alloc, decls, modes, bound, *next, &before, at, block, items)?;
     let script = begin_known(alloc, &used, own)?;
-    let case = &cases[case_of(cases, con_at(&before, at))];
+    let number = case_of(cases, con_at(&before, at));
+    let case = &cases[number];
+    case_is_scoped(decls, bound, variety, cases, number, case);
     let left = state.copy(alloc)?;
     let end = walk(
         alloc, &case.body, decls, modes, bound, next, left, 0, script,
@@ -340,9 +346,7 @@ fn match_each(
 {
     let before = state.copy(alloc)?;
     let own = subject(before.at(at));
-    let used = use_at(
-        alloc, decls, modes, bound, *next, &before, at, block, items,
-    )?;
+    let used = use_at(alloc, decls, modes, bound, *next, &before, at, block, items)?;
     let ends = each_case(
         alloc, cases, decls, modes, bound, next, &before, at, own, block, variety,
     )?;
@@ -384,8 +388,10 @@ fn each_case(
 {
     let mut ends = Vec::new(alloc);
     for i in 0..cases.len() {
+        let case = &cases[i];
+        case_is_scoped(decls, bound, variety, cases, i, case);
         let end = one_case(
-            alloc, &cases[i], decls, modes, bound, next, state, at, own, block, variety,
+            alloc, case, decls, modes, bound, next, state, at, own, block, variety,
         )?;
         add_end(&mut ends, end)?;
     }
