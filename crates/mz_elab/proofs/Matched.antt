@@ -49,6 +49,10 @@ module _ (D : Decls) (names : List ℕ) (R : List (Atom ℕ)) (n to y d : ℕ) (
     pub known_lacks : (where_ : Place) (a : Atom ℕ) → Lacks D names R n (commands_in (body_of k)) where_ a → (rest : List Command) → Lacks D names R n (command ∷ rest) where_ a
     known_lacks where_ a l = lacks_inside D names R n command its_branch opens_known where_ a (one_lacks D names n (begin_with R (body_of k)) where_ a (takes_none_lacks D names R n (commands_in (body_of k)) where_ a l))
 
+    pub known_fault : (m k' : ℕ) (S : List (Atom ℕ)) (fault : ElabFault) → BodyOr D names R n (body_of k) m (Err fault) → GoesOver {A = Unit {0}} D names R n command S k' (Err fault)
+    known_fault m k' S (NoPermission where_ a) l = known_lacks where_ (plain_atom a) l
+    known_fault m k' S Memory l = record {}
+
     pub known_joined : {A : Type 0} (m : ℕ) (e : CodeEnd) (J : List (Atom ℕ)) (result : Result A ElabFault) → WalksTo D names R n (body_of k) m e → JoinsOr D names R to giving (plain_end e ∷ []) J result → GoesOver D names R n command J m result
     known_joined m e J result w j = goes_joined D names R n command its_branch opens_known (plain_end e ∷ []) m J result (one_walked D names n (begin_with R (body_of k)) m e (takes_none D names R n (body_of k) m e w)) j
 
@@ -69,6 +73,10 @@ module _ (D : Decls) (names : List ℕ) (R : List (Atom ℕ)) (n to y d : ℕ) (
 
     pub each_lacks : (where_ : Place) (a : Atom ℕ) → LacksIn D names n each_branch where_ a → (rest : List Command) → Lacks D names R n (command ∷ rest) where_ a
     each_lacks where_ a l = lacks_inside D names R n command each_branch opens_each where_ a l
+
+    pub each_fault : (m k' : ℕ) (S : List (Atom ℕ)) (fault : ElabFault) → BranchesOr D names n each_branch m (Err fault) → GoesOver {A = Unit {0}} D names R n command S k' (Err fault)
+    each_fault m k' S (NoPermission where_ a) l = each_lacks where_ (plain_atom a) l
+    each_fault m k' S Memory l = record {}
 
     pub each_joined : {A : Type 0} (m : ℕ) (ends : List End) (J : List (Atom ℕ)) (result : Result A ElabFault) → GuidedAll D names n each_branch ends m → JoinsOr D names R to giving ends J result → GoesOver D names R n command J m result
     each_joined m ends J result g j = goes_joined D names R n command each_branch opens_each ends m J result g j
@@ -97,8 +105,9 @@ module _ (D : Decls) (names : List ℕ) (n : ℕ) (start : CodeCase → Opening)
         joined : (more : List End) → plain_ends later ++ more ≡ plain_ends ends ++ plain_end e ∷ more
         joined more = ap (λ l. plain_ends l ++ more) is ∙ ap (λ l. l ++ more) (map-append plain_end ends (e ∷ [])) ∙ append_assoc (plain_ends ends) (plain_end e ∷ []) more
 
-    pub cases_lack : (place : Place) (a : Atom ℕ) → Lacks D names ((start c).begins k) (k + (start c).takes) (commands_in (start c).body) place a → LacksIn D names n (map start cases) place a
-    cases_lack place a l = so.lacks place a (subst (λ bs. LacksIn D names k bs place a) (sym left_so) (first_lacks D names k (start c) (map start (drop (i + 1) cases)) place a l))
+    pub cases_fault : (m : ℕ) (fault : ElabFault) → BranchOr D names k (start c) m (Err fault) → BranchesOr D names n (map start cases) m (Err fault)
+    cases_fault m (NoPermission place a) l = so.lacks place (plain_atom a) (subst (λ bs. LacksIn D names k bs place (plain_atom a)) (sym left_so) (first_lacks D names k (start c) (map start (drop (i + 1) cases)) place (plain_atom a) l))
+    cases_fault m Memory l = record {}
 
   pub cases_end : (ends : List CodeEnd) (i k : ℕ) → length cases ≤ i → CasesSo D names n (map start cases) ends k (map start (drop i cases)) → GuidedAll D names n (map start cases) (plain_ends ends) k
   cases_end ends i k w so = subst (λ l. GuidedAll D names n (map start cases) l k) (append-nil (plain_ends ends)) (so.guided [] k (subst (λ bs. GuidedAll D names k bs [] k) (sym (none_of start cases i w)) (Guided_none names k)))

@@ -1,6 +1,7 @@
 //! What the scope of a command says of the bodies that it holds.
 ghost use Rattle.std.specs.Prelude.{◌≡◌, Some, reverse, slice_get};
 ghost use Rattle.mz_tree.specs.Code.{Match_op, body_of, cases_of, con_of};
+ghost use Rattle.mz_tree.specs.declared.code.Case.{out-Case};
 ghost use Rattle.mz_tree.specs.View.{plain_atoms, plain_body, plain_case, plain_cases, plain_command, plain_op};
 ghost use Rattle.mz_decl.specs.View.{plain_decls};
 ghost use Rattle.mz_elab.specs.Scoping.{IsConOf, ScopedBody, ScopedCommand};
@@ -36,6 +37,6 @@ pub(crate) fn case_is_scoped(
     requires scoped { MatchScoped (plain_decls decls.now) (reverse bound.now) variety (plain_cases cases.now) }
     requires here { slice_get cases.now at ≡ Some case.now }
     ensures body { ScopedBody (plain_decls decls.now) (reverse bound.now) (body_of (plain_case case.now)) }
-    ensures own { ScopedBody (plain_decls decls.now) (reverse bound.now) (plain_body case.now.body) }
+    ensures own { ScopedBody (plain_decls decls.now) (reverse bound.now) (plain_body (out-Case case.now).body) }
     ensures con { IsConOf (plain_decls decls.now) variety (con_of (plain_case case.now)) }
 {}

@@ -248,12 +248,40 @@ fn go_match(
     requires scoped { MatchScoped (plain_decls decls.now) (reverse bound.now) variety (plain_cases cases.now) }
     ensures { GoesOver (plain_decls decls.now) (reverse bound.now) state.old next.old (The_command to (Match_op block variety (cases_of (plain_cases cases.now)) (plain_atoms giving.now)) place) state.new next.new result }
 {
-    if let Some(at) = first_of(alloc, decls, modes, state, block, &Sought::Known(variety))? {
-        return match_known(
+    match first_of(alloc, decls, modes, state, block, &Sought::Known(variety))? {
+        Some(at) => match_known(
             alloc, cases, decls, modes, bound, next, state, at, to, block, variety, giving, place,
             items,
-        );
+        ),
+        None => match_closed(
+            alloc, cases, decls, modes, bound, next, state, to, block, variety, giving, place,
+            items,
+        ),
     }
+}
+
+// a match where the constructor isn't known
+#[cycle(walking)]
+fn match_closed(
+    alloc: Global,
+    cases: &[Case],
+    decls: &Decls,
+    modes: &Modes,
+    bound: &[u32],
+    next: &mut u32,
+    state: &mut Indexed,
+    to: u32,
+    block: u32,
+    variety: u32,
+    giving: &[Atom],
+    place: Place,
+    items: &mut Items<Item>,
+) -> Result<(), ElabFault>
+    requires modes { AreModes (plain_decls decls.now) modes.now }
+    requires scoped { MatchScoped (plain_decls decls.now) (reverse bound.now) variety (plain_cases cases.now) }
+    requires alone { NoneFits (InClass state.old block (BlockIn (plain_decls decls.now) variety)) state.old }
+    ensures { GoesOver (plain_decls decls.now) (reverse bound.now) state.old next.old (The_command to (Match_op block variety (cases_of (plain_cases cases.now)) (plain_atoms giving.now)) place) state.new next.new result }
+{
     match first_of(alloc, decls, modes, state, block, &Sought::Closed(variety))? {
         None => Err(ElabFault::NoPermission {
             place,
