@@ -12,3 +12,4 @@ pub mod Laws
 pub mod Joining
 pub mod Naming
 pub mod Doing
+pub mod Calling

@@ -12,6 +12,7 @@
 #![tactic(auto)]
 
 mod acting;
+mod calling;
 mod common;
 mod doing;
 mod ends;
