@@ -22,3 +22,4 @@ pub mod MadeNames
 pub mod Joined
 pub mod DoneItems
 pub mod Acted
+pub mod Called

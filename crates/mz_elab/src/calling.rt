@@ -107,8 +107,8 @@ fn use_function<'a>(
 {
     let at = find_function(alloc, decls, modes, state, callee, args.len(), place)?;
     let sig = sig_in(decls, state, at);
-    let goals = asked(alloc, sig, args)?;
-    let goals = goals.as_slice();
+    let wanted = asked(alloc, sig, args)?;
+    let goals = wanted.as_slice();
     meet_needs(
         alloc, decls, modes, bound, next, state, at, callee, goals, place, items,
     )?;
@@ -218,12 +218,7 @@ fn come_back(
 }
 
 // adds permissions of a signature, in order, with these names
-fn add_at(
-    alloc: Global,
-    state: &mut Indexed,
-    names: &Names,
-    atoms: &[Atom],
-) -> Result<(), Memory>
+fn add_at(alloc: Global, state: &mut Indexed, names: &Names, atoms: &[Atom]) -> Result<(), Memory>
     ensures { IfOk result (λ _. state.new ≡ state.old ++ at_args names.now (plain_atoms atoms.now)) }
 {
     for i in 0..atoms.len() {
