@@ -32,3 +32,4 @@ pub mod ScopedCases
 pub mod FromScoped
 pub mod Inserted
 pub mod Found
+pub mod Called

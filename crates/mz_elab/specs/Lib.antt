@@ -15,3 +15,4 @@ pub mod Doing
 pub mod Walking
 pub mod Elaborating
 pub mod Finding
+pub mod Calling

@@ -13,6 +13,7 @@
 
 mod acting;
 mod blocks;
+mod calling;
 mod common;
 mod doing;
 mod elaborating;

@@ -91,7 +91,7 @@ fn first_held(
 }
 
 // the type of the permission at this place
-fn type_at(alloc: Global, state: &Indexed, place: usize) -> Result<Ty, Memory>
+pub(crate) fn type_at(alloc: Global, state: &Indexed, place: usize) -> Result<Ty, Memory>
     requires { place < length state.now }
     ensures { (x : ℕ) (t : PlainTy ℕ) → slice_get state.now place ≡ Some (Has_atom x t) → IfOk result (λ it. plain_ty it ≡ t) }
 {
