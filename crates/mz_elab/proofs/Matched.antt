@@ -11,6 +11,8 @@ use Rattle.mz_decl.specs.Declarations.{Decls, clause_of}
 use Rattle.mz_decl.specs.Contents.{opened, names_from}
 use Rattle.mz_modes.specs.Affine.{Affine}
 use Rattle.mz_index.specs.Finding.{IsFirst, NoneFits, InClass}
+use Rattle.mz_view.specs.Rules.{subject_of}
+use Rattle.mz_decl.proofs.Adopters.{some_is}
 use Rattle.mz_deriv.proofs.Lists.{next_of, none_of}
 use Rattle.mz_elab.specs.Sought.{IsFirstAt}
 use Rattle.mz_elab.specs.Opening.{Opening, BlockIn, OpensIn, begin_with, open_case, open_con, in_place, at_end, giving_of}
@@ -111,6 +113,28 @@ module _ (D : Decls) (names : List ℕ) (n : ℕ) (start : CodeCase → Opening)
 
   pub cases_end : (ends : List CodeEnd) (i k : ℕ) → length cases ≤ i → CasesSo D names n (map start cases) ends k (map start (drop i cases)) → GuidedAll D names n (map start cases) (plain_ends ends) k
   cases_end ends i k w so = subst (λ l. GuidedAll D names n (map start cases) l k) (append-nil (plain_ends ends)) (so.guided [] k (subst (λ bs. GuidedAll D names k bs [] k) (sym (none_of start cases i w)) (Guided_none names k)))
+
+-- the cases as they are seen
+pub seen_cases : (g : Case → Opening) (cases : List CodeCase) → map (λ c. g (plain_case c)) cases ≡ map g (plain_cases cases)
+seen_cases g [] = refl
+seen_cases g (c ∷ cases) = ap (λ l. g (plain_case c) ∷ l) (seen_cases g cases)
+
+-- ---- what is opened, and how
+
+-- the name of the permission at the place of the first of a sort
+pub own_is : (before R : List (Atom ℕ)) (y at : ℕ) (P : Ty ℕ → Type 0) (a : Atom ℕ) (f : IsFirstAt R y P at) → before ≡ R → slice_get before at ≡ Some a → subject_of a ≡ f.first.fits.name
+own_is before R y at P a f e s = ap subject_of (some_is a f.one (sym s ∙ ap (λ l. slice_get l at) e ∙ f.first.stands) ∙ f.first.fits.is)
+
+-- what is known then goes into its place, or to the end
+pub puts_of : (D : Decls) (R : List (Atom ℕ)) (at d : ℕ) → Affine D d ⊎ (Affine D d → ⊥) → (put : List (Atom ℕ) → List (Atom ℕ)) × PutsIn D R at d put
+puts_of D R at d (inl a) = (in_place R at, inl (a, refl))
+puts_of D R at d (inr n) = (at_end R, inr (n, refl))
+
+pub same_cases : (D : Decls) (names : List ℕ) (n at d : ℕ) (cases : List Case) (m : ℕ) (result : Result (Vec CodeEnd Global) ElabFault) (before R : List (Atom ℕ)) (own name : ℕ) → before ≡ R → own ≡ name →
+    ((put : List (Atom ℕ) → List (Atom ℕ)) → PutsIn D before at d put → BranchesOr D names n (map (open_case D own d put before) cases) m result) →
+    (put : List (Atom ℕ) → List (Atom ℕ)) → PutsIn D R at d put → BranchesOr D names n (map (open_case D name d put R) cases) m result
+same_cases D names n at d cases m result before R own name e o h put p =
+    subst (λ x. BranchesOr D names n (map (open_case D x d put R) cases) m result) o (subst (λ X. PutsIn D X at d put → BranchesOr D names n (map (open_case D own d put X) cases) m result) e (h put) p)
 
 -- ---- one case
 

@@ -23,12 +23,12 @@ module _ (D : Decls) (names : List ℕ) (R : List (Atom ℕ)) (n : ℕ) (c : Com
   pub test_lacks : (place : Place) (a : Atom ℕ) → (place ≡ place_of c) × FirstUnmet D R (Has_atom y Int_type ∷ []) a → (rest : List Command) → Lacks D names R n (c ∷ rest) place a
   test_lacks place a l rest = subst (λ p. Lacks D names R n (c ∷ rest) p a) (sym l.0) (lacks_here D names R n c a (subst (λ op. LacksOp D R op a) (sym is) l.1) rest)
 
-  pub test_fault : {A : Type 0} (K : ℕ → Type 0) (goals T S : List (Atom ℕ)) (items more : List Item) (k : ℕ) (fault : ElabFault) → goals ≡ Has_atom y Int_type ∷ [] → MeetsGoals {A} D K R goals (place_of c) T items more (Err fault) → GoesOver {A = Unit {0}} D names R n c S k (Err fault)
+  pub test_fault : (K : ℕ → Type 0) (goals T S : List (Atom ℕ)) (items more : List Item) (k : ℕ) (fault : ElabFault) → goals ≡ Has_atom y Int_type ∷ [] → MeetsGoals {A = Unit {0}} D K R goals (place_of c) T items more (Err fault) → GoesOver {A = Unit {0}} D names R n c S k (Err fault)
   test_fault K goals T S items more k (NoPermission place a) e l = test_lacks place (plain_atom a) (l.0, subst (λ g. FirstUnmet D R g (plain_atom a)) e l.1)
   test_fault K goals T S items more k Memory e l = record {}
 
   module _ (L : List (Atom ℕ)) (needs : Needs D R (Has_atom y Int_type ∷ []) L) where
-    both : List Opening
+    abbrev pub both : List Opening
     both = begin_with L one ∷ begin_with L two ∷ []
 
     opens : OpensIn D R (op_of c) both

@@ -71,8 +71,8 @@ module _ (D : Decls) (names : List ℕ) (R : List (Atom ℕ)) (n : ℕ) (command
       let r = subst (Reaches D names R n (plain_commands commands) (reverse now) S k) (left_is w h) s.reaches in
       subst (λ cs. Lacks D names R n cs place a) (ap plain_commands e ∙ sym (commands_in_body b)) (r.lacks place a (l (plain_commands (drop (i + 1) commands))))
 
-  pub walk_fault : {A : Type 0} (b : CodeBody) (T : List (Atom ℕ)) (m j : ℕ) (fault : ElabFault) → commands ≡ (out-Body b).commands → i < length commands → c ≡ get_or commands i c → Stands D names R n commands i now S k →
-      GoesOver {A} D (reverse now) S k (plain_command c) T m (Err fault) → BodyOr D names R n (plain_body b) j (Err fault)
+  pub walk_fault : (b : CodeBody) (T : List (Atom ℕ)) (m j : ℕ) (fault : ElabFault) → commands ≡ (out-Body b).commands → i < length commands → c ≡ get_or commands i c → Stands D names R n commands i now S k →
+      GoesOver {A = Unit {0}} D (reverse now) S k (plain_command c) T m (Err fault) → BodyOr D names R n (plain_body b) j (Err fault)
   walk_fault b T m j (NoPermission place a) e w h s l = walk_lacks b place (plain_atom a) e w h s l
   walk_fault b T m j Memory e w h s l = record {}
 
