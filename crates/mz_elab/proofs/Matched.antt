@@ -1,7 +1,7 @@
 -- A match: by the constructor that is known, or by each case.
 use Rattle.std.proofs.Common.{◌≡◌, ◌⊎◌, inl, inr, ℕ, ◌+◌, ◌<◌, ◌≤◌, List, [], ◌∷◌, ◌++◌, map, drop, length, get_or, Result, Ok, Err, Some, Vec, Global, slice_get, refl, sym, ap, ◌∙◌, subst, arith}
 use Rattle.std.proofs.lemmas.List.{map-append, append_assoc, append-nil}
-use Rattle.mz_tree.specs.Plain.{Atom, Ty, Named_type, Has_atom}
+use Rattle.mz_tree.specs.Plain.{Atom, Ty, Block_type, Named_type, Has_atom}
 use Rattle.mz_tree.specs.Code.{Body, Case, Command, Match_op, The_command, The_case, to_of, op_of, place_of, commands_in, case_list, cases_of, con_of, body_of}
 use Rattle.mz_tree.specs.Programs.{Con}
 use Rattle.mz_tree.specs.View.{plain_atom, plain_case, plain_cases}
@@ -124,6 +124,10 @@ seen_cases g (c ∷ cases) = ap (λ l. g (plain_case c) ∷ l) (seen_cases g cas
 -- the name of the permission at the place of the first of a sort
 pub own_is : (before R : List (Atom ℕ)) (y at : ℕ) (P : Ty ℕ → Type 0) (a : Atom ℕ) (f : IsFirstAt R y P at) → before ≡ R → slice_get before at ≡ Some a → subject_of a ≡ f.first.fits.name
 own_is before R y at P a f e s = ap subject_of (some_is a f.one (sym s ∙ ap (λ l. slice_get l at) e ∙ f.first.stands) ∙ f.first.fits.is)
+
+-- the block at the place of the first that tells its constructor
+pub known_block : (D : Decls) (before R : List (Atom ℕ)) (y d at : ℕ) (f : IsFirstAt R y (BlockIn D d) at) → before ≡ R → slice_get before at ≡ Some (Has_atom f.first.fits.name (Block_type f.first.fits.fits.con f.first.fits.fits.names f.first.fits.fits.adopts))
+known_block D before R y d at f e = ap (λ l. slice_get l at) e ∙ f.first.stands ∙ ap Some (f.first.fits.is ∙ ap (Has_atom f.first.fits.name) f.first.fits.fits.is)
 
 -- what is known then goes into its place, or to the end
 pub puts_of : (D : Decls) (R : List (Atom ℕ)) (at d : ℕ) → Affine D d ⊎ (Affine D d → ⊥) → (put : List (Atom ℕ) → List (Atom ℕ)) × PutsIn D R at d put

@@ -1,12 +1,14 @@
 use Rattle.std.proofs.Common.{◌≡◌, ◌≤◌, Ok, Err, refl, ap, ◌∙◌, sym, subst, reverse, length, [], ◌∷◌, map}
 use Rattle.std.proofs.lemmas.Result.{err_from_is_err_and}
 use Rattle.mz_tree.specs.Plain.{Has_atom, Int_type, Named_type}
-use Rattle.mz_tree.specs.Code.{Match_op, The_command, body_of, cases_of, con_of}
+use Rattle.mz_tree.specs.Code.{Case, Match_op, The_command, body_of, cases_of, con_of}
 use Rattle.mz_tree.specs.View.{plain_atom, plain_atoms, plain_body, plain_case, plain_cases, plain_command, plain_op}
 use Rattle.mz_tree.specs.declared.code.Body.{out-Body}
 use Rattle.mz_tree.specs.declared.code.Case.{out-Case}
 use Rattle.mz_tree.proofs.CodeViews.{plain_match, plain_case_is}
 use Rattle.mz_decl.specs.View.{plain_decls}
+use Rattle.mz_decl.proofs.Adopters.{get_map}
+use Rattle.mz_index.specs.Finding.{IsFirst}
 use Rattle.mz_deriv.specs.View.{plain_item}
 use Rattle.mz_goal.specs.Needs.{Needs}
 use Rattle.mz_goal.proofs.Viewing.{known}
@@ -16,10 +18,11 @@ use Rattle.mz_elab.specs.Guided.{GuidedAll}
 use Rattle.mz_elab.specs.Opening.{open_case}
 use Rattle.mz_elab.specs.Joining.{plain_end, plain_ends}
 use Rattle.mz_elab.specs.Walking.{BodyOr, BranchesOr, GoesOver, JoinsOr, OpensCon, PutsIn, WalksTo}
+use Rattle.mz_elab.proofs.AllGiving.{at_index}
 use Rattle.mz_elab.proofs.Walked.{Stands, walk_start, walk_next, walk_fault, walk_end, end_is, bound_more}
 use Rattle.mz_elab.proofs.Forked.{goes_straight}
 use Rattle.mz_elab.proofs.Tested.{test_fault, first_fault, second_fault, test_joined}
-use Rattle.mz_elab.proofs.Matched.{match_lacks, each_fault, each_joined, own_is, puts_of, same_cases, case_walked, cases_fault, cases_next, cases_end, seen_cases}
+use Rattle.mz_elab.proofs.Matched.{known_block, known_fault, known_joined, match_lacks, each_fault, each_joined, own_is, puts_of, same_cases, case_walked, cases_fault, cases_next, cases_end, seen_cases}
 use Rattle.mz_elab.proofs.walking.+walking.Goals as goal
 
 pub go-returns-in_err-meet_goals-in-If : goal.go-returns-in_err-meet_goals-in-If
@@ -156,10 +159,39 @@ each_case-returns t c = λ put p.
     (cases_end D names c.args.next.now (λ k. start (plain_case k)) c.args.cases.now c.loop-i.ends.items c.loop-i.i c.loop-i.next c.loop-i-test.false (c.loop-i.invariant put p))
 
 pub match_known-returns-in_err-end : goal.match_known-returns-in_err-end
-match_known-returns-in_err-end t c = ?
+match_known-returns-in_err-end t c =
+    let D = plain_decls c.args.decls.now in
+    let names = reverse c.args.bound.now in
+    let cases = plain_cases c.args.cases.now in
+    let R = c.args.state.now in
+    let x = c.index-cases-number.result in
+    let f = c.requires.first in
+    let here = get_map plain_case c.args.cases.now c.case_of-number.result x (at_index c.args.cases.now c.case_of-number.result x c.case_of-number.ensures.within c.index-cases-number.is) in
+    let con = c.con_at.ensures f.first.fits.name f.first.fits.fits.con f.first.fits.fits.names f.first.fits.fits.adopts (known_block D c.in_ok-before.before R c.args.block c.args.variety c.args.at f c.in_ok-before.ensures) in
+    let its = subst (λ k. IsFirst (λ (a : Case). con_of a ≡ k) cases c.case_of-number.result (plain_case x)) con (c.case_of-number.ensures.first (plain_case x) here) in
+    let p = err_from_is_err_and c.from_residual-in_err-end.result c.from_residual-in_err-end.ensures.1 in
+    subst (λ r. GoesOver {A = Unit {0}} D names R c.args.next.now (The_command c.args.to (Match_op c.args.block c.args.variety (cases_of cases) (plain_atoms c.args.giving.now)) c.args.place) R c.walk.new.next r) (sym (p.1 ∙ ap Err p.2))
+    (known_fault D names R c.args.next.now c.args.to c.args.block c.args.variety cases (plain_atoms c.args.giving.now) c.args.place c.args.at f c.case_of-number.result (plain_case x) its c.walk.new.next c.walk.new.next R c.in_err-end.field-0.0
+    (subst (λ b. BodyOr D names R c.args.next.now b c.walk.new.next (Err c.in_err-end.field-0.0)) (sym (ap body_of (plain_case_is x)))
+    (subst (λ L. BodyOr D names L c.args.next.now (plain_body (out-Case x).body) c.walk.new.next (Err c.in_err-end.field-0.0)) c.in_ok-left.ensures c.in_err-end.ensures)))
 
 pub match_known-returns : goal.match_known-returns
-match_known-returns t c = ?
+match_known-returns t c =
+    let D = plain_decls c.args.decls.now in
+    let names = reverse c.args.bound.now in
+    let cases = plain_cases c.args.cases.now in
+    let R = c.args.state.now in
+    let x = c.index-cases-number.result in
+    let f = c.requires.first in
+    let here = get_map plain_case c.args.cases.now c.case_of-number.result x (at_index c.args.cases.now c.case_of-number.result x c.case_of-number.ensures.within c.index-cases-number.is) in
+    let con = c.con_at.ensures f.first.fits.name f.first.fits.fits.con f.first.fits.fits.names f.first.fits.fits.adopts (known_block D c.in_ok-before.before R c.args.block c.args.variety c.args.at f c.in_ok-before.ensures) in
+    let its = subst (λ k. IsFirst (λ (a : Case). con_of a ≡ k) cases c.case_of-number.result (plain_case x)) con (c.case_of-number.ensures.first (plain_case x) here) in
+    let walked =
+    subst (λ b. WalksTo D names R c.args.next.now b c.walk.new.next c.in_ok-end.end) (sym (ap body_of (plain_case_is x)))
+    (subst (λ L. WalksTo D names L c.args.next.now (plain_body (out-Case x).body) c.walk.new.next c.in_ok-end.end) c.in_ok-left.ensures c.in_ok-end.ensures) in
+    known_joined D names R c.args.next.now c.args.to c.args.block c.args.variety cases (plain_atoms c.args.giving.now) c.args.place c.args.at f c.case_of-number.result (plain_case x) its c.walk.new.next c.in_ok-end.end c.join_in.new.state c.join_in.result walked
+    (subst (λ S. JoinsOr D names S c.args.to (plain_atoms c.args.giving.now) (plain_end c.in_ok-end.end ∷ []) c.join_in.new.state c.join_in.result) c.in_ok-before.ensures
+    (subst (λ l. JoinsOr D names c.in_ok-before.before c.args.to (plain_atoms c.args.giving.now) (plain_ends l) c.join_in.new.state c.join_in.result) c.in_ok-ends.ensures c.join_in.ensures))
 
 pub walk-loop-i-init : goal.walk-loop-i-init
 walk-loop-i-init t c =
