@@ -29,6 +29,7 @@ pub mod Matched
 pub mod CaseAt
 pub mod JoinsIn
 pub mod ScopedCases
+pub mod WholeFunctions
 pub mod FromScoped
 pub mod Inserted
 pub mod Found
