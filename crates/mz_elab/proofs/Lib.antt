@@ -22,3 +22,5 @@ pub mod MadeNames
 pub mod Joined
 pub mod DoneItems
 pub mod Acted
+pub mod Locks
+pub mod Adopters

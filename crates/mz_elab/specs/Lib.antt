@@ -12,3 +12,5 @@ pub mod Laws
 pub mod Joining
 pub mod Naming
 pub mod Doing
+pub mod Locking
+pub mod Adopting

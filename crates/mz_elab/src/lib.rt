@@ -12,6 +12,7 @@
 #![tactic(auto)]
 
 mod acting;
+mod adopting;
 mod common;
 mod doing;
 mod ends;
@@ -22,6 +23,7 @@ mod goals;
 mod joining;
 mod laws;
 mod lending;
+mod locking;
 mod naming;
 mod outer;
 mod restoring;
