@@ -26,9 +26,6 @@ guards_these t atoms (Ok it) e o guarded g = ap plain_atoms o ∙ sym (list_of_a
 same_type : (x y : ℕ) (t u : Ty ℕ) (a : Atom ℕ) → Some (Has_atom x t) ≡ Some a → a ≡ Has_atom y u → u ≡ t
 same_type x y t u a e f = cc
 
-no_type : (x y z : ℕ) (u : Ty ℕ) (a : Atom ℕ) → Some (Same_atom x y) ≡ Some a → a ≡ Has_atom z u → ⊥
-no_type x y z u a e f = cc
-
 -- the first lock, and what it guards
 pub lock_found : {E : Type 0} (R : List (Atom ℕ)) (l n x : ℕ) (t : Ty ℕ) (r : Result (List CodeAtom) E) → slice_get R n ≡ Some (Has_atom x t) → ((guarded : List (Atom ℕ)) → TypeGuards t guarded → IfOk r (λ it. plain_atoms it ≡ guarded)) → IsFirstAt R l GuardsSome n → IfOk r (λ it. FindsLock R l (plain_atoms it))
 lock_found R l n x t (Err f) is g h = tt
@@ -42,24 +39,9 @@ lock_found R l n x t (Ok it) is g h =
       guards = subst (λ l. TypeGuards h.first.fits.ty l) (sym (g some.0 (subst (λ s. TypeGuards s some.0) same some.1))) some.1;
     }
 
-pub no_lock : {P : Type 0} (R : List (Atom ℕ)) (l n x y : ℕ) → slice_get R n ≡ Some (Same_atom x y) → IsFirstAt R l GuardsSome n → P
-no_lock R l n x y is h = absurd (no_type x y h.first.fits.name h.first.fits.ty h.one (sym is ∙ h.first.stands) h.first.fits.is)
-
+-- a lock that is freed
 module _ (D : Decls) (R : List (Atom ℕ)) (n c l : ℕ) (place : Place) (guarded T : List (Atom ℕ)) where
-  pub acquired : FindsLock R l guarded → T ≡ R ++ guarded ++ Has_atom l Locked_type ∷ Has_atom c Unknown_type ∷ [] → ActsOr {A = Unit {0}} D R n c (Acquire_op l) place T n (Ok tt)
-  acquired f e = (record { guarded = guarded; found = f; new = e }, refl)
-
   pub released : (goals : List (Atom ℕ)) (r : Result (Unit {0}) ElabFault) → FindsLock R l guarded → goals ≡ guarded ++ Has_atom l Locked_type ∷ [] → MeetsOr D R goals (Has_atom c Unknown_type) place T r → ActsOr D R n c (Release_op l) place T n r
   released goals (Ok u) f e m = (record { guarded = guarded; found = f; meets = subst (λ g. Meeting D R g (Has_atom c Unknown_type ∷ []) T) e m }, refl)
   released goals (Err (NoPermission p b)) f e m = (m.0, inr (record { guarded = guarded; found = f; unmet = subst (λ g. FirstUnmet D R g (plain_atom b)) e m.1 }))
   released goals (Err Memory) f e m = tt
-
--- a lock that isn't there
-module _ {A : Type 0} (D : Decls) (R : List (Atom ℕ)) (n c l : ℕ) (place : Place) (T : List (Atom ℕ)) where
-  pub not_acquired : (fault : ElabFault) → FindsOr D R l Lock_sought place (Err fault) → ActsOr {A = A} D R n c (Acquire_op l) place T n (Err fault)
-  not_acquired (NoPermission p b) m = m
-  not_acquired Memory m = tt
-
-  pub not_released : (fault : ElabFault) → FindsOr D R l Lock_sought place (Err fault) → ActsOr {A = A} D R n c (Release_op l) place T n (Err fault)
-  not_released (NoPermission p b) m = (m.0, inl m.1)
-  not_released Memory m = tt
