@@ -1,7 +1,7 @@
 -- The lock that a command looks for, what it guards, and what is made of that.
-use Rattle.std.proofs.Common.{◌≡◌, ℕ, IfOk, Result, Ok, Err, List, [], ◌∷◌, ◌++◌, Some, slice_get, inl, inr, refl, sym, ap, ◌∙◌, subst}
-use Rattle.mz_tree.specs.Plain.{Ty, Atom, Locked_type, Unknown_type, Lock_type, Has_atom, Same_atom, list_of, atoms_of}
-use Rattle.mz_tree.specs.Code.{Acquire_op, Release_op}
+use Rattle.std.proofs.Common.{◌≡◌, ℕ, IfOk, Result, Ok, Err, List, [], ◌∷◌, ◌++◌, Some, slice_get, inr, refl, sym, ap, ◌∙◌, subst}
+use Rattle.mz_tree.specs.Plain.{Ty, Atom, Locked_type, Unknown_type, Has_atom}
+use Rattle.mz_tree.specs.Code.{Release_op}
 use Rattle.mz_tree.specs.View.{plain_atom, plain_atoms, plain_ty}
 use Rattle.mz_tree.specs.declared.types.Atom.{Atom as CodeAtom}
 use Rattle.mz_tree.specs.declared.types.Ty.{Ty as CodeTy, Lock}
@@ -14,7 +14,7 @@ use Rattle.mz_goal.specs.Needs.{FirstUnmet}
 use Rattle.mz_elab.specs.Acting.{FindsLock, GuardsSome, Meeting}
 use Rattle.mz_elab.specs.Doing.{ActsOr}
 use Rattle.mz_elab.specs.Locking.{MeetsOr}
-use Rattle.mz_elab.specs.Sought.{Lock_sought, FindsOr, IsFirstAt}
+use Rattle.mz_elab.specs.Sought.{IsFirstAt}
 use Rattle.mz_elab.specs.declared.fault.ElabFault.{ElabFault}
 use Rattle.mz_elab.specs.declared.fault.ElabFault.TheVariants.{NoPermission, Memory}
 

@@ -92,9 +92,7 @@ pub(crate) fn take_block(
     let found = find_adopter(alloc, decls, modes, state, adopter, place, items)?;
     let held = state.at(found.place).copy(alloc)?;
     let goal = dynamic(block);
-    meet_or(
-        alloc, decls, modes, bound, next, state, goal, place, items,
-    )?;
+    meet_or(alloc, decls, modes, bound, next, state, goal, place, items)?;
     do_lent(
         alloc, decls, modes, bound, next, state, &held, adopter, items,
     )?;
