@@ -34,3 +34,5 @@ pub mod FromScoped
 pub mod Inserted
 pub mod Found
 pub mod Called
+pub mod Locks
+pub mod Adopters

@@ -16,3 +16,5 @@ pub mod Walking
 pub mod Elaborating
 pub mod Finding
 pub mod Calling
+pub mod Locking
+pub mod Adopting

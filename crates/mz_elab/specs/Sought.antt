@@ -1,8 +1,10 @@
 -- What the code looks for in a class, each the first of its sort.
-use Rattle.std.specs.Prelude.{◌≡◌, ◌==◌, ◌||◌, ◌&&◌, nat_le, nat_lt, ℕ, Bool, true, List, Option, Some, None, length, slice_get}
+use Rattle.std.specs.Prelude.{◌≡◌, ◌==◌, ◌||◌, ◌&&◌, nat_le, nat_lt, ℕ, Bool, true, List, Option, Some, None, Result, Ok, Err, length, slice_get}
 use Rattle.std.specs.List.{list_any}
 use Rattle.mz_tree.specs.Plain.{Ty, Atom, Unknown_type, Named_type, Has_atom, Same_atom}
 use Rattle.mz_tree.specs.Programs.{Con, Sig}
+use Rattle.mz_tree.specs.View.{plain_atom}
+use Rattle.mz_tree.specs.declared.types.Place.{Place}
 use Rattle.mz_decl.specs.Declarations.{Decls}
 use Rattle.mz_perm.specs.Lists.{In}
 use Rattle.mz_perm.specs.Occurrence.{in_type}
@@ -10,6 +12,9 @@ use Rattle.mz_index.specs.Finding.{IsFirst, NoneFits, InClass}
 use Rattle.mz_index.specs.Tests.{Test, Block_test, Block_of_test, Variety_test, Function_test, Lock_test, Any_test}
 use Rattle.mz_elab.specs.Acting.{BlockOf, SignedWith, AdoptsBy, ByData, AdoptsSome, GuardsSome}
 use Rattle.mz_elab.specs.Opening.{BlockIn}
+use Rattle.mz_elab.specs.Lacking.{NoneOf}
+use Rattle.mz_elab.specs.declared.fault.ElabFault.{ElabFault}
+use Rattle.mz_elab.specs.declared.fault.ElabFault.TheVariants.{NoPermission, Memory}
 use Rattle.mz_elab.specs.declared.finding.Sought.{Sought as CodeSought}
 use Rattle.mz_elab.specs.declared.finding.Sought.TheVariants.{Open, Closed, Known, Signed, Adopter, AnyLock, Held}
 
@@ -71,6 +76,12 @@ pub record IsFirstAt (R : List (Atom ℕ)) (x : ℕ) (P : Ty ℕ → Type 0) (n 
 abbrev pub FirstAt : List (Atom ℕ) → ℕ → (Ty ℕ → Type 0) → Option ℕ → Type 0
 FirstAt R x P None = NoneFits (InClass R x P) R
 FirstAt R x P (Some n) = IsFirstAt R x P n
+
+-- the place of the first of the sort in x's class; or at this place x is wanting at `unknown`
+abbrev pub FindsOr : Decls → List (Atom ℕ) → ℕ → Sought → Place → Result ℕ ElabFault → Type 0
+FindsOr D R x s place (Ok n) = IsFirstAt R x (IsSought D s) n
+FindsOr D R x s place (Err (NoPermission other a)) = (other ≡ place) × NoneOf R x (IsSought D s) (plain_atom a)
+FindsOr D R x s place (Err Memory) = Unit {0}
 
 -- a constructor with so many fields; a signature with so many parameters
 pub record HasFields (D : Decls) (con : ℕ) (names : List ℕ) : Type 0 where

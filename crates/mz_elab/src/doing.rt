@@ -1,5 +1,6 @@
 //! Commands without branches that look for nothing: they add a permission, some after goals.
 ghost use Rattle.std.specs.Prelude.{◌≡◌, ◌++◌, ◌∷◌, [], IfOk, None, map, option_map};
+ghost use Rattle.mz_tree.specs.Plain.{Has_atom, Unknown_type};
 ghost use Rattle.mz_tree.specs.View.{plain_atom, plain_atoms};
 ghost use Rattle.mz_decl.specs.View.{plain_decls};
 ghost use Rattle.mz_modes.specs.Modes.{AreModes};
@@ -13,7 +14,7 @@ use mz_decl::Decls;
 use mz_deriv::Item;
 use mz_index::Indexed;
 use mz_modes::Modes;
-use mz_tree::{Atom, Memory, Place};
+use mz_tree::{Atom, Memory, Place, Ty};
 use sqlite_items::Items;
 use std::alloc::Global;
 
@@ -45,6 +46,18 @@ pub(crate) fn add_plain(
 {
     state.add(atom)?;
     write_do(alloc, None, items)
+}
+
+// the permissions that a command adds whose value is ()
+pub(crate) fn add_with_unit(state: &mut Indexed, atom: Atom, to: u32) -> Result<(), Memory>
+    ensures { IfOk result (λ _. state.new ≡ state.old ++ plain_atom atom ∷ Has_atom to Unknown_type ∷ []) }
+{
+    state.add(atom)?;
+    state.add(Atom::Has {
+        name: to,
+        ty: Ty::Unknown,
+    })?;
+    Ok(())
 }
 
 // a command that meets these goals and then adds this permission

@@ -13,13 +13,14 @@ ghost use Rattle.mz_decl.specs.Declarations.{Decls as PlainDecls};
 ghost use Rattle.mz_elab.specs.Acting.{AdoptsSome, BlockOf, GuardsSome, SignedWith};
 ghost use Rattle.mz_elab.specs.Opening.{BlockIn};
 ghost use Rattle.mz_elab.specs.Scoping.{IsConOf};
-ghost use Rattle.mz_elab.specs.Sought.{AdoptedBy, ByDataAt, FirstAt, HasCount, HasFields, Held_sought, IsSought, OfTy, plain_sought, test_for};
+ghost use Rattle.mz_elab.specs.Sought.{AdoptedBy, ByDataAt, FindsOr, FirstAt, HasCount, HasFields, Held_sought, IsSought, OfTy, plain_sought, test_for};
 
+use crate::fault::ElabFault;
 use crate::outer::type_names;
 use mz_decl::Decls;
 use mz_index::{Indexed, Test};
 use mz_modes::Modes;
-use mz_tree::{Atom, Memory, Names, Ty};
+use mz_tree::{Atom, Memory, Names, Place, Ty};
 use std::alloc::Global;
 
 // what is looked for
@@ -48,6 +49,31 @@ pub(crate) fn first_of(
 {
     let test = test_for(sought);
     first_by(alloc, decls, modes, state, name, sought, &test)
+}
+
+// the same for a command, which lacks the name at `unknown` where there is none
+pub(crate) fn find(
+    alloc: Global,
+    decls: &Decls,
+    modes: &Modes,
+    state: &Indexed,
+    name: u32,
+    sought: &Sought,
+    place: Place,
+) -> Result<usize, ElabFault>
+    requires { AreModes (plain_decls decls.now) modes.now }
+    ensures { FindsOr (plain_decls decls.now) state.now name (plain_sought sought.now) place result }
+{
+    match first_of(alloc, decls, modes, state, name, sought)? {
+        Some(found) => Ok(found),
+        None => Err(ElabFault::NoPermission {
+            place,
+            atom: Atom::Has {
+                name,
+                ty: Ty::Unknown,
+            },
+        }),
+    }
 }
 
 // the same, with what the index is asked for

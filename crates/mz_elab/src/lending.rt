@@ -6,6 +6,7 @@
 ghost use Rattle.mz_decl.specs.View.{plain_decls};
 ghost use Rattle.mz_modes.specs.Modes.{AreModes};
 
+use crate::doing::write_do;
 use crate::goals::{meet_goal, subject};
 use mz_decl::Decls;
 use mz_deriv::Item;
@@ -69,4 +70,35 @@ pub(crate) fn lend_back(
         to: back,
     }))?;
     Ok(())
+}
+
+// the permission under this name
+pub(crate) fn with_name(alloc: Global, atom: &Atom, name: u32) -> Result<Atom, Memory> {
+    match atom {
+        Atom::Has { name: _, ty } => Ok(Atom::Has {
+            name,
+            ty: ty.copy(alloc)?,
+        }),
+        Atom::Same { .. } => atom.copy(alloc),
+    }
+}
+
+// writes a command that uses the permission under this name and leaves it as it is
+pub(crate) fn do_lent(
+    alloc: Global,
+    decls: &Decls,
+    modes: &Modes,
+    bound: &[u32],
+    next: u32,
+    state: &Indexed,
+    atom: &Atom,
+    to: u32,
+    items: &mut Items<Item>,
+) -> Result<(), Memory>
+    requires { AreModes (plain_decls decls.now) modes.now }
+{
+    lend(alloc, decls, modes, bound, next, state, atom, to, items)?;
+    let lent = with_name(alloc, atom, to)?;
+    write_do(alloc, Some(with_name(alloc, atom, to)?), items)?;
+    lend_back(alloc, &lent, subject(atom), items)
 }

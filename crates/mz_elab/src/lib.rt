@@ -14,6 +14,7 @@
 mod acting;
 mod blocks;
 mod calling;
+mod adopting;
 mod common;
 mod doing;
 mod elaborating;
@@ -28,6 +29,7 @@ mod joins;
 mod laws;
 mod lending;
 mod matching;
+mod locking;
 mod naming;
 mod opening;
 mod outer;
