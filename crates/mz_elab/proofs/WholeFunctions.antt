@@ -1,6 +1,7 @@
 -- Whole functions and programs, by what the walk of a body and the goals of its end answer.
 use Rattle.std.proofs.Common.{◌≡◌, inl, inr, ℕ, ◌+◌, ◌<◌, ◌≤◌, List, [], ◌∷◌, length, map, get_or, Some, Result, Ok, Err, slice_get, refl, sym, ap, ◌∙◌, subst, arith}
 use Rattle.std.proofs.lemmas.Bool.{cases_lt}
+use Rattle.std.proofs.lemmas.List.{length-map}
 use Rattle.std.proofs.lemmas.Option.{slice_get_within}
 use Rattle.mz_tree.specs.Plain.{Atom}
 use Rattle.mz_tree.specs.Code.{commands_in, result_of, brace_of}
@@ -8,6 +9,7 @@ use Rattle.mz_tree.specs.Programs.{Sig, Fun, Program}
 use Rattle.mz_tree.specs.View.{plain_atom, plain_fun, plain_program}
 use Rattle.mz_tree.specs.declared.types.Place.{Place}
 use Rattle.mz_tree.specs.declared.program.Fun.{Fun as CodeFun}
+use Rattle.mz_tree.specs.declared.program.Program.{Program as CodeProgram}
 use Rattle.mz_decl.specs.Declarations.{Decls, decls_of}
 use Rattle.mz_decl.specs.Signatures.{parameters, needed, owed}
 use Rattle.mz_decl.proofs.Adopters.{some_is}
@@ -19,7 +21,8 @@ use Rattle.mz_elab.specs.Joining.{MeetsGoals}
 use Rattle.mz_elab.specs.Guided.{GuidedFun, GuidedProgram}
 use Rattle.mz_elab.specs.Lacking.{LacksFun, LacksProgram, Lacks_body, Lacks_end}
 use Rattle.mz_elab.specs.Walking.{BodyOr, WalksTo}
-use Rattle.mz_elab.specs.Elaborating.{Elaborates, FunOr}
+use Rattle.mz_elab.specs.Scoping.{FunScoped, ScopedBody}
+use Rattle.mz_elab.specs.Elaborating.{BodyScoped, Elaborates, FunOr}
 use Rattle.mz_elab.specs.declared.ends.End.{End as CodeEnd}
 use Rattle.mz_elab.specs.declared.fault.ElabFault.{ElabFault}
 use Rattle.mz_elab.specs.declared.fault.ElabFault.TheVariants.{NoPermission, Memory}
@@ -48,3 +51,34 @@ funs_next D funs k fun h e below g m f l ef = elim (cases_lt m k) [
   | inl small ↦ below m f small ef
   | inr large ↦ let same : k ≡ m = omega arith in subst (GuidedFun D) (some_is _ _ (sym (image_at plain_fun funs k fun h e) ∙ ap (slice_get (map plain_fun funs)) same ∙ ef)) g
 ]
+
+-- what the scope of a program says of its functions, over its declarations as they are held
+module _ (p : Program) (D : Decls) (is_decls : D ≡ decls_of p) (f : Fun) (fs : FunScoped p f) where
+  pub fun_signed : f.sig < length D.sigs
+  fun_signed = subst (λ (E : Decls). f.sig < length E.sigs) (sym is_decls) (slice_get_within (decls_of p).sigs f.sig fs.sig fs.signed)
+
+  pub fun_body : BodyScoped D f
+  fun_body = subst (λ (E : Decls). BodyScoped E f) (sym is_decls) (λ sig s. subst (λ (x : Sig). ScopedBody (decls_of p) (parameters x) f.body) (some_is fs.sig sig (sym fs.signed ∙ s)) fs.body)
+
+module _ (p : CodeProgram) (D : Decls) (funs : List CodeFun) (is_decls : D ≡ decls_of (plain_program p)) (is_funs : funs ≡ p.funs) (k : ℕ) where
+  -- a function of the program
+  pub fun_at : (fun : CodeFun) → k < length funs → fun ≡ get_or funs k fun → slice_get (plain_program p).funs k ≡ Some (plain_fun fun)
+  fun_at fun h e = ap (λ l. slice_get (map plain_fun l) k) (sym is_funs) ∙ image_at plain_fun funs k fun h e
+
+  pub program_fault : (fun : CodeFun) (fault : ElabFault) → k < length funs → fun ≡ get_or funs k fun → FunsBelow D funs k → FunOr {A = Unit {0}} D (plain_fun fun) (Err fault) → Elaborates {A = Unit {0}} (plain_program p) (Err fault)
+  program_fault fun (NoPermission place a) h e below l = record {
+    k = k;
+    fun = plain_fun fun;
+    found = fun_at fun h e;
+    before = λ j f s g. subst (λ (E : Decls). GuidedFun E f) is_decls (below j f s (ap (λ l. slice_get (map plain_fun l) j) is_funs ∙ g));
+    lacks = subst (λ (E : Decls). LacksFun E (plain_fun fun) place (plain_atom a)) is_decls l;
+  }
+  program_fault fun Memory h e below l = record {}
+
+  pub program_guided : Declared (plain_program p) → length funs ≤ k → FunsBelow D funs k → GuidedProgram (plain_program p)
+  program_guided declared h below = record {
+    declared = declared;
+    funs = λ m f e. let g = ap (λ l. slice_get (map plain_fun l) m) is_funs ∙ e in
+    let w : m < length (map plain_fun funs) = slice_get_within (map plain_fun funs) m f g in
+    subst (λ (E : Decls). GuidedFun E f) is_decls (below m f (omega (arith, h, w, length-map funs plain_fun)) g);
+  }

@@ -14,6 +14,7 @@
 mod acting;
 mod blocks;
 mod calling;
+mod changing;
 mod adopting;
 mod common;
 mod doing;

@@ -28,7 +28,7 @@ returns-in_err-end c =
     let names = ap reverse c.as_slice-2.ensures ∙ c.in_ok-bound.ensures in
     let start = c.in_ok-begun.ensures ∙ c.in_ok-state_of.ensures ∙ ap plain_atoms c.as_slice.ensures ∙ c.in_ok-needs.ensures in
     let p = err_from_is_err_and c.from_residual-in_err-end.result c.from_residual-in_err-end.ensures.1 in
-    subst (λ r. FunOr {A = Unit {0}} D f r) (sym (p.1 ∙ ap Err p.2))
+    subst (λ r. FunOr D f r) (sym (p.1 ∙ ap Err p.2))
     (body_fault D f sig c.sig-sig.ensures c.walk.new.next c.in_err-end.field-0.0
     (subst (λ l. BodyOr D l (needed sig.needs) 256 f.body c.walk.new.next (Err c.in_err-end.field-0.0)) names
     (subst (λ R. BodyOr D (reverse c.as_slice-2.result.now) R 256 f.body c.walk.new.next (Err c.in_err-end.field-0.0)) start c.in_err-end.ensures)))
@@ -51,7 +51,7 @@ returns-in_err-meet_goals c =
     let T = c.meet_goals.new.state in
     let before = map plain_item e.items in
     let after = map plain_item c.meet_goals.new.items in
-    subst (λ r. FunOr {A = Unit {0}} D f r) (sym (p.1 ∙ ap Err p.2))
+    subst (λ r. FunOr D f r) (sym (p.1 ∙ ap Err p.2))
     (end_fault D f sig c.sig-sig.ensures c.walk.new.next e walked K T before after fault
     (subst (λ l. MeetsGoals {A = Unit {0}} D K e.state l (brace_of f.body) T before after (Err fault)) owes
     (subst (λ place. MeetsGoals {A = Unit {0}} D K e.state (plain_atoms c.as_slice-4.result.now) place T before after (Err fault)) (sym (brace_of_body c.args.fun.now.body)) c.in_err-meet_goals.ensures)))
