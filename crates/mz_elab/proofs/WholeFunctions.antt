@@ -79,6 +79,6 @@ module _ (p : CodeProgram) (D : Decls) (funs : List CodeFun) (is_decls : D ≡ d
   program_guided declared h below = record {
     declared = declared;
     funs = λ m f e. let g = ap (λ l. slice_get (map plain_fun l) m) is_funs ∙ e in
-    let w : m < length (map plain_fun funs) = slice_get_within (map plain_fun funs) m f g in
-    subst (λ (E : Decls). GuidedFun E f) is_decls (below m f (omega (arith, h, w, length-map funs plain_fun)) g);
+        let w : m < length (map plain_fun funs) = slice_get_within (map plain_fun funs) m f g in
+        subst (λ (E : Decls). GuidedFun E f) is_decls (below m f (omega (arith, h, w, length-map funs plain_fun)) g);
   }

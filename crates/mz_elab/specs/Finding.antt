@@ -1,6 +1,6 @@
 -- What the code of a read, a write and a change of tag answers as it looks for its block.
-use Rattle.std.specs.Prelude.{◌≡◌, ◌+◌, ℕ, List, Option, Some, None, Result, Ok, Err, length, slice_get, slice_set}
-use Rattle.mz_tree.specs.Plain.{Atom, Ty, Named_type, Block_type, Has_atom}
+use Rattle.std.specs.Prelude.{◌≡◌, ◌+◌, ℕ, List, Option, Some, None, Result, Ok, Err, length, slice_get}
+use Rattle.mz_tree.specs.Plain.{Atom, Named_type, Block_type, Has_atom}
 use Rattle.mz_tree.specs.Programs.{Con}
 use Rattle.mz_tree.specs.View.{plain_atom}
 use Rattle.mz_tree.specs.declared.types.Place.{Place}
@@ -54,7 +54,3 @@ FindsOr D R x con n place S m (Err Memory) = Unit {0}
 pub record HoldsNamed (R : List (Atom ℕ)) (at d : ℕ) : Type 0 where
   pub name : ℕ
   pub stands : slice_get R at ≡ Some (Has_atom name (Named_type d))
-
--- the block that stands at the place is changed so, by the command of the name c
-pub record Puts (R : List (Atom ℕ)) (at : ℕ) (becomes : List ℕ → Option ℕ → Ty ℕ → Type 0) (S : List (Atom ℕ)) : Type 0 where
-  pub changes : (name con : ℕ) (names : List ℕ) (clause : Option ℕ) → slice_get R at ≡ Some (Has_atom name (Block_type con names clause)) → (ty : Ty ℕ) × becomes names clause ty × (S ≡ slice_set R at (Has_atom name ty))

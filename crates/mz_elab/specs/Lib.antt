@@ -18,3 +18,4 @@ pub mod Finding
 pub mod Calling
 pub mod Locking
 pub mod Adopting
+pub mod Changing

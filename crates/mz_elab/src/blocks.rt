@@ -248,7 +248,15 @@ fn open_fresh(
             let name = subject(state.at(at));
             let fresh = fresh_names(alloc, *next, made.fields.len())?;
             let spot = open_in(
-                alloc, decls, modes, state, at, name, number, con, &fresh.names,
+                alloc,
+                decls,
+                modes,
+                state,
+                at,
+                name,
+                number,
+                con,
+                &fresh.names,
             )?;
             *next = fresh.next;
             Ok(spot)

@@ -12,10 +12,10 @@
 #![tactic(auto)]
 
 mod acting;
+mod adopting;
 mod blocks;
 mod calling;
 mod changing;
-mod adopting;
 mod common;
 mod doing;
 mod elaborating;
@@ -29,8 +29,8 @@ mod joining;
 mod joins;
 mod laws;
 mod lending;
-mod matching;
 mod locking;
+mod matching;
 mod naming;
 mod opening;
 mod outer;

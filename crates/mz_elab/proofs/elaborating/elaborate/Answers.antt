@@ -31,7 +31,7 @@ returns-in_err-script c =
     let p = err_from_is_err_and c.from_residual-in_err-script.result c.from_residual-in_err-script.ensures.1 in
     record {
       guided = subst (λ r. Elaborates (plain_program c.args.program.now) r) (sym (p.1 ∙ ap Err p.2))
-      (program_fault c.args.program.now (plain_decls c.in_ok-decls.decls) c.as_slice-funs.result.now c.in_ok-decls.ensures c.as_slice-funs.ensures c.loop-k.k c.index-funs-k.result c.in_err-script.field-0.0 c.loop-k-test.true c.index-funs-k.is c.loop-k.invariant c.in_err-script.ensures);
+          (program_fault c.args.program.now (plain_decls c.in_ok-decls.decls) c.as_slice-funs.result.now c.in_ok-decls.ensures c.as_slice-funs.ensures c.loop-k.k c.index-funs-k.result c.in_err-script.field-0.0 c.loop-k-test.true c.index-funs-k.is c.loop-k.invariant c.in_err-script.ensures);
     }
 
 pub loop-k-preserved : goal.loop-k-preserved
