@@ -30,6 +30,7 @@ pub mod CaseAt
 pub mod JoinsIn
 pub mod ScopedCases
 pub mod WholeFunctions
+pub mod BlockFound
 pub mod FromScoped
 pub mod Inserted
 pub mod Found

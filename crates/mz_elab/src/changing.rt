@@ -255,7 +255,8 @@ fn put(
     let lent = with_name(alloc, &new, block)?;
     lend_back(alloc, &lent, subject(old), items)?;
     state.take_at(at);
-    state.insert(at, new)
+    state.insert(at, new)?;
+    Ok(())
 }
 
 // the command's name gets `()`
