@@ -9,6 +9,7 @@ use Rattle.mz_decl.specs.Declarations.{Decls}
 use Rattle.mz_view.specs.declared.step.ViewStep.{ViewStep}
 use Rattle.mz_goal.specs.Needs.{NeedBeside, Unmet, UnmetBeside}
 use Rattle.mz_goal.specs.Answers.{MeetsBeside}
+use Rattle.mz_elab.proofs.Inserted.{set_removed}
 use Rattle.mz_elab.specs.Acting.{AdoptsBy, AdoptsSome, with_clause}
 use Rattle.mz_elab.specs.Doing.{ActsOr}
 use Rattle.mz_elab.specs.Adopting.{HasAdopter, BesideOr, NeedOr, atom_clause}
@@ -17,11 +18,6 @@ use Rattle.mz_elab.specs.declared.fault.ElabFault.{ElabFault}
 use Rattle.mz_elab.specs.declared.fault.ElabFault.TheVariants.{NoPermission, Memory}
 
 -- ---- one permission in the place of another
-
-pub set_at : {A : Type 0} (xs : List A) (n : ℕ) (a : A) → n < length xs → take n (remove xs n) ++ a ∷ drop n (remove xs n) ≡ slice_set xs n a
-set_at [] n a h = absurd (omega (arith, h))
-set_at (x ∷ xs) zero a h = refl
-set_at (x ∷ xs) (suc n) a h = ap (λ l. x ∷ l) (set_at xs n a (omega (arith, h)))
 
 get_set : {A : Type 0} (xs : List A) (n : ℕ) (a : A) → n < length xs → slice_get (slice_set xs n a) n ≡ Some a
 get_set [] n a h = absurd (omega (arith, h))
@@ -48,7 +44,7 @@ adopts_at D R n x v s is f y t u that a =
 
 -- it is taken out, and put back with what it adopts
 pub clause_put : (R S T : List (Atom ℕ)) (n u : ℕ) (old new : Atom ℕ) → n < length R → slice_get R n ≡ Some old → S ≡ remove R n → new ≡ atom_clause u old → T ≡ take n S ++ new ∷ drop n S → (a : Atom ℕ) → slice_get R n ≡ Some a → T ≡ slice_set R n (atom_clause u a)
-clause_put R S T n u old new h is s e t a that = t ∙ ap (λ l. take n l ++ new ∷ drop n l) s ∙ set_at R n new h ∙ ap (slice_set R n) (e ∙ ap (atom_clause u) (one_is old a (sym is ∙ that)))
+clause_put R S T n u old new h is s e t a that = t ∙ ap (λ l. take n l ++ new ∷ drop n l) s ∙ set_removed R n new h ∙ ap (slice_set R n) (e ∙ ap (atom_clause u) (one_is old a (sym is ∙ that)))
 
 -- the first adopter, which says what it adopts from then on
 pub has_adopter : (D : Decls) (R : List (Atom ℕ)) (y n u : ℕ) (S : List (Atom ℕ)) → IsFirstAt R y (AdoptsSome D) n → ((x : ℕ) (t : Ty ℕ) (v : ℕ) → slice_get R n ≡ Some (Has_atom x t) → AdoptsBy D v t → AdoptsBy D u t) → ((a : Atom ℕ) → slice_get R n ≡ Some a → S ≡ slice_set R n (atom_clause u a)) → HasAdopter D R y u n S

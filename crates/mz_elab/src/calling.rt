@@ -14,7 +14,7 @@ ghost use Rattle.mz_elab.specs.Calling.{ComesBack, FindsOr, MeetsOr, SigAt, Some
 
 use crate::doing::write_do;
 use crate::fault::ElabFault;
-use crate::finding::{Sought, first_of};
+use crate::finding::{Sought, find};
 use crate::goals::meet_goals;
 use crate::lending::lend;
 use crate::valuing::type_at;
@@ -128,16 +128,8 @@ fn find_function(
     requires { AreModes (plain_decls decls.now) modes.now }
     ensures { FindsOr (plain_decls decls.now) state.now callee count place result }
 {
-    match first_of(alloc, decls, modes, state, callee, &Sought::Signed(count))? {
-        None => {
-            let atom = Atom::Has {
-                name: callee,
-                ty: Ty::Unknown,
-            };
-            Err(ElabFault::NoPermission { place, atom })
-        }
-        Some(at) => Ok(at),
-    }
+    let sought = Sought::Signed(count);
+    find(alloc, decls, modes, state, callee, &sought, place)
 }
 
 // the signature of the function that stands there

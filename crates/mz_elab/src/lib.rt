@@ -1,4 +1,4 @@
-//! The guided rules of whole programs, and parts of the proposer.
+//! The proposer: a derivation of a program is looked for by guided rules, or the first permission that is wanting is named.
 //!
 //! The guided rules say which permission is looked for, in which order, and what is done with it, so that they have no choice.
 //! `specs/Guided.antt` says where they lead through bodies, functions and programs, over `specs/Acting.antt` (commands without
@@ -6,9 +6,14 @@
 //! permission is the first that they want, and where. The laws say that they lead to one list, that what is guided wants
 //! nothing, and that there is one first permission at most.
 //!
-//! The proposer isn't whole yet: what is here are goals in a row with the view steps that are written for them, the first
-//! permission of a sort, commands that look for none, and the join of the ends of branches. `specs/Scripting.antt` says how a
-//! script goes along with the guided state: steps that say nothing new aren't written.
+//! `elaborate` answers Ok just where the guided rules lead through the whole program, and else with the first permission that
+//! they want, at its place. It walks each body once, from a list of permissions in which the order counts; each branch is
+//! walked from a copy of its own. Beside it goes the script, which is what Ok gives. `specs/Scripting.antt` says how a script
+//! goes along with the guided state: steps that say nothing new aren't written. That it is a derivation isn't proved yet; of
+//! goals in a row and of joins the steps are.
+//!
+//! There are three layers: what is looked for in a state (`finding`, `goals`, `outer`), commands (`acting` to `steps`) and
+//! joins (`joining` and what it stands on), and the walk over bodies (`walking`, `elaborating`).
 #![tactic(auto)]
 
 mod acting;

@@ -10,12 +10,12 @@ ghost use Rattle.mz_elab.specs.Walking.{HasCase};
 
 use crate::fresh::fresh_names;
 use crate::goals::subject;
-use crate::lending::{lend, lend_back};
+use crate::lending::{lend, lend_back, with_name};
 use mz_decl::Decls;
 use mz_deriv::Item;
 use mz_index::Indexed;
 use mz_modes::Modes;
-use mz_tree::{Alike, Atom, Case, Memory, Ty};
+use mz_tree::{Atom, Case, Memory, Ty};
 use sqlite_items::Items;
 use std::alloc::Global;
 
@@ -65,20 +65,6 @@ pub(crate) fn use_at(
     let found = state.at(place);
     lend(alloc, decls, modes, bound, next, state, found, name, items)?;
     with_name(alloc, found, name)
-}
-
-// the permission under this name
-fn with_name(alloc: Global, atom: &Atom, name: u32) -> Result<Atom, Memory> {
-    match atom {
-        Atom::Has { ty, .. } => Ok(Atom::Has {
-            name,
-            ty: ty.copy(alloc)?,
-        }),
-        Atom::Same { right, .. } => Ok(Atom::Same {
-            left: name,
-            right: *right,
-        }),
-    }
 }
 
 // how the script of a branch begins: the permission that was used gets its own name back
