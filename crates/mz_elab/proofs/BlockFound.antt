@@ -1,5 +1,5 @@
 -- The block that a command is of, and what is made of it.
-use Rattle.std.proofs.Common.{◌≡◌, ◌<◌, inl, inr, ℕ, zero, suc, ◌+◌, List, [], ◌∷◌, ◌++◌, length, take, drop, get_or, Option, Some, None, slice_get, slice_set, refl, sym, ap, ◌∙◌, subst, arith}
+use Rattle.std.proofs.Common.{◌≡◌, ◌<◌, inl, inr, ℕ, zero, suc, List, [], ◌∷◌, ◌++◌, length, take, drop, get_or, Option, Some, None, slice_get, slice_set, refl, sym, ap, ◌∙◌, subst, arith}
 use Rattle.std.proofs.lemmas.List.{append_assoc}
 use Rattle.std.proofs.lemmas.Option.{slice_get_within, slice_get-get_or}
 use Rattle.mz_tree.specs.Plain.{Atom, Ty, Block_type, Named_type, Unknown_type, Has_atom, Same_atom}
@@ -7,7 +7,6 @@ use Rattle.mz_tree.specs.Programs.{Con}
 use Rattle.mz_decl.specs.Contents.{contents, opened, names_from}
 use Rattle.mz_decl.specs.Declarations.{Decls, clause_of, only_of}
 use Rattle.mz_decl.proofs.Adopters.{some_is}
-use Rattle.mz_modes.specs.Affine.{Affine, IsMutableCon}
 use Rattle.mz_index.specs.Finding.{IsFirst, NoneFits, InClass}
 use Rattle.mz_elab.specs.Acting.{BlockOf, OpensAt, Reading, Changing, Written, Retagged}
 use Rattle.mz_elab.specs.Lacking.{NoBlock}

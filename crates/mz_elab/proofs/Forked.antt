@@ -1,18 +1,17 @@
 -- One command: by its rule, or through its branches.
-use Rattle.std.proofs.Common.{◌≡◌, ◌⊎◌, inl, inr, ℕ, ◌+◌, List, [], ◌∷◌, ◌++◌, map, Result, Ok, Err, Vec, Global, refl, sym, ap, ◌∙◌, subst, arith}
+use Rattle.std.proofs.Common.{◌≡◌, ℕ, ◌+◌, List, [], ◌∷◌, Result, Ok, Err, sym, subst, arith}
 use Rattle.mz_tree.specs.Plain.{Atom}
 use Rattle.mz_tree.specs.Code.{Body, Command, to_of, op_of, place_of, commands_in}
 use Rattle.mz_tree.specs.View.{plain_atom}
 use Rattle.mz_tree.specs.declared.types.Place.{Place}
 use Rattle.mz_decl.specs.Declarations.{Decls}
-use Rattle.mz_elab.specs.Acting.{Acts}
 use Rattle.mz_elab.specs.Doing.{ActsOr}
 use Rattle.mz_elab.specs.Opening.{Opening, OpensIn, giving_of}
-use Rattle.mz_elab.specs.Joins.{End, end_of}
-use Rattle.mz_elab.specs.Joining.{plain_end, plain_ends}
-use Rattle.mz_elab.specs.Guided.{Guided, GuidedAll, Guided_acts, Guided_branches, Guided_none, Guided_one}
+use Rattle.mz_elab.specs.Joins.{End}
+use Rattle.mz_elab.specs.Joining.{plain_end}
+use Rattle.mz_elab.specs.Guided.{GuidedAll, Guided_acts, Guided_branches, Guided_none, Guided_one}
 use Rattle.mz_elab.specs.Lacking.{Lacks, LacksIn, LacksOp, Lacks_here, Lacks_later, Lacks_inside, Lacks_given, Lacks_after, Lacks_first, Lacks_next}
-use Rattle.mz_elab.specs.Walking.{Reaches, GoesOver, WalksTo, BodyOr, BranchesOr, JoinsOr}
+use Rattle.mz_elab.specs.Walking.{GoesOver, WalksTo, JoinsOr}
 use Rattle.mz_elab.specs.declared.ends.End.{End as CodeEnd}
 use Rattle.mz_elab.specs.declared.fault.ElabFault.{ElabFault}
 use Rattle.mz_elab.specs.declared.fault.ElabFault.TheVariants.{NoPermission, Memory}

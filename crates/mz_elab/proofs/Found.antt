@@ -1,15 +1,13 @@
 -- The block of a read, a write or a change of tag.
-use Rattle.std.proofs.Common.{◌≡◌, ◌<◌, inl, inr, ℕ, suc, ◌+◌, Bool, true, false, List, [], ◌∷◌, ◌++◌, length, take, drop, Option, Some, None, slice_get, refl, sym, ap, ◌∙◌, subst, arith, append-nil}
+use Rattle.std.proofs.Common.{◌≡◌, ◌<◌, inl, inr, ℕ, suc, List, ◌++◌, length, take, drop, Some, slice_get, refl, ap, ◌∙◌, arith, append-nil}
 use Rattle.std.proofs.lemmas.List.{drop_all, take_all}
 use Rattle.std.specs.List.{remove}
-use Rattle.mz_tree.specs.Plain.{Atom, Named_type, Has_atom}
+use Rattle.mz_tree.specs.Plain.{Atom}
 use Rattle.mz_tree.specs.Programs.{Con}
-use Rattle.mz_tree.specs.Saying.{Denies}
 use Rattle.mz_decl.specs.Contents.{opened}
 use Rattle.mz_decl.specs.Declarations.{Decls, clause_of}
-use Rattle.mz_modes.specs.Affine.{Affine, AffineAtom}
+use Rattle.mz_modes.specs.Affine.{Affine}
 use Rattle.mz_elab.specs.Finding.{OpensAs}
-use Rattle.mz_elab.specs.Scoping.{IsCon}
 use Rattle.mz_elab.proofs.Inserted.{take_removed, drop_removed}
 
 module _ (D : Decls) (R : List (Atom ℕ)) (place name d con : ℕ) (names : List ℕ) (made : Con) where

@@ -1,9 +1,8 @@
 -- Permissions that are put into a state, one in front of the other.
-use Rattle.std.proofs.Common.{◌≡◌, ◌≤◌, ◌<◌, ℕ, zero, suc, ◌+◌, List, [], ◌∷◌, ◌++◌, map, length, take, drop, Some, slice_get, slice_set, refl, sym, ap, ◌∙◌, append_assoc, arith}
-use Rattle.std.proofs.lemmas.List.{take-append-drop, take-append-le, drop-append-le, length-take-le, length-append, map-append}
+use Rattle.std.proofs.Common.{◌≡◌, ◌≤◌, ◌<◌, ℕ, zero, suc, List, [], ◌∷◌, ◌++◌, length, take, drop, slice_set, refl, sym, ap, ◌∙◌, append_assoc, arith}
+use Rattle.std.proofs.lemmas.List.{take-append-drop, length-take-le, length-append, map-append}
 use Rattle.std.proofs.Math.Seq.{take-append_seam, drop-append_seam}
 use Rattle.std.specs.List.{remove}
-use Rattle.mz_tree.specs.Plain.{Atom}
 use Rattle.mz_tree.specs.View.{plain_atom, plain_atoms}
 use Rattle.mz_tree.specs.declared.types.Atom.{Atom as CodeAtom}
 

@@ -1,5 +1,5 @@
 -- The join of the branches of one command, by what the code of joins answers.
-use Rattle.std.proofs.Common.{◌≡◌, ◌⊎◌, inl, inr, ℕ, List, [], ◌∷◌, ◌++◌, reverse, Result, Ok, Err, refl, sym, ap, ◌∙◌, subst}
+use Rattle.std.proofs.Common.{◌≡◌, ◌⊎◌, inl, inr, ℕ, List, [], ◌∷◌, ◌++◌, reverse, Err, sym, subst}
 use Rattle.std.proofs.lemmas.List.{reverse-append}
 use Rattle.mz_tree.specs.Plain.{Atom}
 use Rattle.mz_decl.specs.Declarations.{Decls}

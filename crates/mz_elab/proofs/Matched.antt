@@ -1,25 +1,23 @@
 -- A match: by the constructor that is known, or by each case.
-use Rattle.std.proofs.Common.{◌≡◌, ◌⊎◌, inl, inr, ℕ, ◌+◌, ◌<◌, ◌≤◌, List, [], ◌∷◌, ◌++◌, map, drop, length, get_or, Result, Ok, Err, Some, Vec, Global, slice_get, refl, sym, ap, ◌∙◌, subst, arith}
+use Rattle.std.proofs.Common.{◌≡◌, ◌⊎◌, inl, inr, ℕ, ◌+◌, ◌<◌, ◌≤◌, List, [], ◌∷◌, ◌++◌, map, drop, length, get_or, Result, Err, Some, Vec, Global, slice_get, refl, sym, ap, ◌∙◌, subst}
 use Rattle.std.proofs.lemmas.List.{map-append, append_assoc, append-nil}
 use Rattle.mz_tree.specs.Plain.{Atom, Ty, Block_type, Named_type, Has_atom}
-use Rattle.mz_tree.specs.Code.{Body, Case, Command, Match_op, The_command, The_case, to_of, op_of, place_of, commands_in, case_list, cases_of, con_of, body_of}
-use Rattle.mz_tree.specs.Programs.{Con}
+use Rattle.mz_tree.specs.Code.{Body, Case, Command, Match_op, The_command, The_case, op_of, commands_in, case_list, cases_of, con_of, body_of}
 use Rattle.mz_tree.specs.View.{plain_atom, plain_case, plain_cases}
 use Rattle.mz_tree.specs.declared.types.Place.{Place}
 use Rattle.mz_tree.specs.declared.code.Case.{Case as CodeCase}
 use Rattle.mz_decl.specs.Declarations.{Decls, clause_of}
-use Rattle.mz_decl.specs.Contents.{opened, names_from}
 use Rattle.mz_modes.specs.Affine.{Affine}
 use Rattle.mz_index.specs.Finding.{IsFirst, NoneFits, InClass}
 use Rattle.mz_view.specs.Rules.{subject_of}
 use Rattle.mz_decl.proofs.Adopters.{some_is}
 use Rattle.mz_deriv.proofs.Lists.{next_of, none_of}
 use Rattle.mz_elab.specs.Sought.{IsFirstAt}
-use Rattle.mz_elab.specs.Opening.{Opening, BlockIn, OpensIn, begin_with, open_case, open_con, in_place, at_end, giving_of}
+use Rattle.mz_elab.specs.Opening.{Opening, BlockIn, OpensIn, begin_with, open_case, open_con, in_place, at_end}
 use Rattle.mz_elab.specs.Joins.{End}
 use Rattle.mz_elab.specs.Joining.{plain_end, plain_ends}
 use Rattle.mz_elab.specs.Guided.{GuidedAll, Guided_none}
-use Rattle.mz_elab.specs.Lacking.{Lacks, LacksIn, LacksOp}
+use Rattle.mz_elab.specs.Lacking.{Lacks, LacksIn}
 use Rattle.mz_elab.specs.Walking.{GoesOver, WalksTo, BodyOr, BranchOr, BranchesOr, JoinsOr, PutsIn, OpensCon}
 use Rattle.mz_elab.specs.declared.ends.End.{End as CodeEnd}
 use Rattle.mz_elab.specs.declared.fault.ElabFault.{ElabFault}

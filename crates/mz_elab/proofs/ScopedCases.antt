@@ -1,14 +1,14 @@
 -- The cases of a scoped match.
-use Rattle.std.proofs.Common.{◌≡◌, inl, inr, ℕ, zero, suc, List, [], ◌∷◌, Some, slice_get, refl, sym, ap, ◌∙◌, subst}
+use Rattle.std.proofs.Common.{◌≡◌, inl, inr, ℕ, zero, suc, List, [], ◌∷◌, Some, slice_get, sym, ap, subst}
 use Rattle.mz_tree.specs.Plain.{Atom}
-use Rattle.mz_tree.specs.Code.{Case, Command, Op, Match_op, The_command, The_case, body_of, case_list, cases_of, con_of, op_of, to_of}
+use Rattle.mz_tree.specs.Code.{Case, Command, Match_op, The_command, The_case, body_of, cases_of, con_of, op_of}
 use Rattle.mz_tree.specs.View.{plain_body, plain_case, plain_cases}
 use Rattle.mz_tree.specs.declared.code.Case.{Case as CodeCase, out-Case}
 use Rattle.mz_tree.proofs.CodeViews.{plain_case_is}
 use Rattle.mz_decl.specs.Declarations.{Decls}
 use Rattle.mz_decl.proofs.Adopters.{some_is, get_map}
 use Rattle.mz_perm.specs.Lists.{In}
-use Rattle.mz_elab.specs.Scoping.{AreCasesOf, IsConOf, ScopedBody, ScopedCase, ScopedCases, ScopedCommand, ScopedOp}
+use Rattle.mz_elab.specs.Scoping.{AreCasesOf, IsConOf, ScopedBody, ScopedCases, ScopedCommand, ScopedOp}
 use Rattle.mz_elab.specs.Walking.{EachScoped, MatchScoped}
 use Rattle.mz_elab.proofs.Matched.{cases_listed}
 

@@ -1,16 +1,14 @@
 -- A command that tests a number and goes on in one of two bodies.
-use Rattle.std.proofs.Common.{◌≡◌, ℕ, ◌+◌, List, [], ◌∷◌, Result, Err, refl, sym, subst}
+use Rattle.std.proofs.Common.{◌≡◌, ℕ, List, [], ◌∷◌, Result, Err, refl, sym, subst}
 use Rattle.mz_tree.specs.Plain.{Atom, Int_type, Has_atom}
-use Rattle.mz_tree.specs.Code.{Body, Command, Op, If_op, to_of, op_of, place_of, commands_in}
+use Rattle.mz_tree.specs.Code.{Body, Command, If_op, to_of, op_of, place_of, commands_in}
 use Rattle.mz_tree.specs.View.{plain_atom}
 use Rattle.mz_tree.specs.declared.types.Place.{Place}
 use Rattle.mz_decl.specs.Declarations.{Decls}
 use Rattle.mz_deriv.specs.Scripts.{Item}
 use Rattle.mz_goal.specs.Needs.{Needs, FirstUnmet}
 use Rattle.mz_elab.specs.Opening.{Opening, OpensIn, begin_with, giving_of}
-use Rattle.mz_elab.specs.Joins.{End}
 use Rattle.mz_elab.specs.Joining.{MeetsGoals, plain_end}
-use Rattle.mz_elab.specs.Guided.{Guided_none}
 use Rattle.mz_elab.specs.Lacking.{Lacks, LacksOp}
 use Rattle.mz_elab.specs.Walking.{GoesOver, BodyOr, WalksTo, JoinsOr}
 use Rattle.mz_elab.specs.declared.ends.End.{End as CodeEnd}

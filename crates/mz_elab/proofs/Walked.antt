@@ -1,8 +1,8 @@
 -- The loop of the walk over the commands of a body.
-use Rattle.std.proofs.Common.{◌≡◌, ℕ, ◌+◌, ◌<◌, ◌≤◌, List, [], ◌∷◌, ◌++◌, length, map, drop, reverse, get_or, Result, Ok, Err, refl, sym, ap, ◌∙◌, subst}
+use Rattle.std.proofs.Common.{◌≡◌, ℕ, ◌+◌, ◌<◌, ◌≤◌, List, [], ◌∷◌, ◌++◌, length, drop, reverse, get_or, Err, sym, ap, ◌∙◌, subst}
 use Rattle.std.proofs.lemmas.List.{reverse-append}
 use Rattle.mz_tree.specs.Plain.{Atom}
-use Rattle.mz_tree.specs.Code.{Body, Command, Commands, The_command, The_body, commands_in, commands_of, to_of, result_of, brace_of}
+use Rattle.mz_tree.specs.Code.{Command, commands_in, commands_of, to_of, result_of}
 use Rattle.mz_tree.specs.View.{plain_atom, plain_body, plain_command, plain_commands}
 use Rattle.mz_tree.specs.declared.types.Place.{Place}
 use Rattle.mz_tree.specs.declared.code.Command.{Command as CodeCommand}
@@ -12,11 +12,9 @@ use Rattle.mz_decl.specs.Declarations.{Decls}
 use Rattle.mz_deriv.proofs.Lists.{next_of, none_of}
 use Rattle.mz_elab.specs.Guided.{Guided, Guided_ends}
 use Rattle.mz_elab.specs.Lacking.{Lacks}
-use Rattle.mz_elab.specs.Joining.{plain_end}
 use Rattle.mz_elab.specs.Joins.{End, end_of}
 use Rattle.mz_elab.specs.Scoping.{ScopedBody, ScopedCommand, ScopedCommands, AllScoped}
-use Rattle.mz_elab.specs.Walking.{Reaches, GoesOver, WalksTo, BodyOr}
-use Rattle.mz_elab.specs.declared.ends.End.{End as CodeEnd}
+use Rattle.mz_elab.specs.Walking.{Reaches, GoesOver, BodyOr}
 use Rattle.mz_elab.specs.declared.fault.ElabFault.{ElabFault}
 use Rattle.mz_elab.specs.declared.fault.ElabFault.TheVariants.{NoPermission, Memory}
 

@@ -1,13 +1,12 @@
 -- Whole functions and programs, by what the walk of a body and the goals of its end answer.
-use Rattle.std.proofs.Common.{◌≡◌, inl, inr, ℕ, ◌+◌, ◌<◌, ◌≤◌, List, [], ◌∷◌, length, map, get_or, Some, Result, Ok, Err, slice_get, refl, sym, ap, ◌∙◌, subst, arith}
+use Rattle.std.proofs.Common.{◌≡◌, inl, inr, ℕ, ◌+◌, ◌<◌, ◌≤◌, List, length, map, get_or, Some, Err, slice_get, sym, ap, ◌∙◌, subst, arith}
 use Rattle.std.proofs.lemmas.Bool.{cases_lt}
 use Rattle.std.proofs.lemmas.List.{length-map}
 use Rattle.std.proofs.lemmas.Option.{slice_get_within}
 use Rattle.mz_tree.specs.Plain.{Atom}
-use Rattle.mz_tree.specs.Code.{commands_in, result_of, brace_of}
+use Rattle.mz_tree.specs.Code.{result_of, brace_of}
 use Rattle.mz_tree.specs.Programs.{Sig, Fun, Program}
 use Rattle.mz_tree.specs.View.{plain_atom, plain_fun, plain_program}
-use Rattle.mz_tree.specs.declared.types.Place.{Place}
 use Rattle.mz_tree.specs.declared.program.Fun.{Fun as CodeFun}
 use Rattle.mz_tree.specs.declared.program.Program.{Program as CodeProgram}
 use Rattle.mz_decl.specs.Declarations.{Decls, decls_of}
@@ -16,10 +15,10 @@ use Rattle.mz_decl.proofs.Adopters.{some_is}
 use Rattle.mz_modes.specs.Adopted.{Declared}
 use Rattle.mz_deriv.specs.Scripts.{Item}
 use Rattle.mz_deriv.proofs.WholePrograms.{image_at}
-use Rattle.mz_goal.specs.Needs.{Needs, FirstUnmet}
+use Rattle.mz_goal.specs.Needs.{Needs}
 use Rattle.mz_elab.specs.Joining.{MeetsGoals}
 use Rattle.mz_elab.specs.Guided.{GuidedFun, GuidedProgram}
-use Rattle.mz_elab.specs.Lacking.{LacksFun, LacksProgram, Lacks_body, Lacks_end}
+use Rattle.mz_elab.specs.Lacking.{LacksFun, Lacks_body, Lacks_end}
 use Rattle.mz_elab.specs.Walking.{BodyOr, WalksTo}
 use Rattle.mz_elab.specs.Scoping.{FunScoped, ScopedBody}
 use Rattle.mz_elab.specs.Elaborating.{BodyScoped, Elaborates, FunOr}

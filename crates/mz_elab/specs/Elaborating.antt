@@ -1,5 +1,5 @@
 -- What the proposer answers.
-use Rattle.std.specs.Prelude.{◌≡◌, ◌<◌, ℕ, List, Some, Result, Ok, Err, length, slice_get}
+use Rattle.std.specs.Prelude.{◌≡◌, Some, Result, Ok, Err, slice_get}
 use Rattle.mz_tree.specs.Programs.{Sig, Fun, Program}
 use Rattle.mz_tree.specs.View.{plain_atom}
 use Rattle.mz_decl.specs.Declarations.{Decls}

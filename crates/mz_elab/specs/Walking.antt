@@ -1,8 +1,8 @@
 -- What the walk answers of commands, branches and bodies.
-use Rattle.std.specs.Prelude.{◌≡◌, ◌⊎◌, ℕ, ◌+◌, List, [], ◌∷◌, Some, Result, Ok, Err, Vec, length, slice_get}
+use Rattle.std.specs.Prelude.{◌≡◌, ◌⊎◌, ℕ, ◌+◌, List, ◌∷◌, Some, Result, Ok, Err, Vec, length, slice_get}
 use Rattle.std.proofs.Common.{Global}
 use Rattle.mz_tree.specs.Plain.{Atom}
-use Rattle.mz_tree.specs.Code.{Body, Case, Command, to_of, op_of, place_of, commands_in, body_of, con_of}
+use Rattle.mz_tree.specs.Code.{Body, Case, Command, to_of, commands_in, body_of, con_of}
 use Rattle.mz_tree.specs.Programs.{Con}
 use Rattle.mz_tree.specs.View.{plain_atom}
 use Rattle.mz_tree.specs.declared.types.Place.{Place}
@@ -10,11 +10,11 @@ use Rattle.mz_decl.specs.Declarations.{Decls, clause_of}
 use Rattle.mz_decl.specs.Contents.{opened, names_from}
 use Rattle.mz_modes.specs.Affine.{Affine}
 use Rattle.mz_perm.specs.Lists.{In}
-use Rattle.mz_elab.specs.Opening.{Opening, in_place, at_end, open_case, OpensIn, giving_of}
+use Rattle.mz_elab.specs.Opening.{Opening, in_place, at_end}
 use Rattle.mz_elab.specs.Joins.{End, end_of, Joins}
 use Rattle.mz_elab.specs.Joining.{plain_end, plain_ends}
 use Rattle.mz_elab.specs.Guided.{Guided, GuidedAll}
-use Rattle.mz_elab.specs.Lacking.{Lacks, LacksIn, LacksOp, GivesLack}
+use Rattle.mz_elab.specs.Lacking.{Lacks, LacksIn, GivesLack}
 use Rattle.mz_elab.specs.Scoping.{ScopedBody, AreCasesOf}
 use Rattle.mz_elab.specs.declared.ends.End.{End as CodeEnd}
 use Rattle.mz_elab.specs.declared.fault.ElabFault.{ElabFault}

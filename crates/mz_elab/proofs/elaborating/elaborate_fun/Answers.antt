@@ -1,9 +1,9 @@
 use Rattle.std.proofs.Common.{Err, map, reverse, sym, ap, ◌∙◌, subst}
 use Rattle.std.proofs.lemmas.Result.{err_from_is_err_and}
-use Rattle.mz_tree.specs.Code.{result_of, brace_of}
+use Rattle.mz_tree.specs.Code.{brace_of}
 use Rattle.mz_tree.specs.View.{plain_atoms, plain_body, plain_fun, plain_sig}
 use Rattle.mz_tree.proofs.CodeViews.{brace_of_body, result_of_body}
-use Rattle.mz_decl.specs.Signatures.{parameters, needed, owed}
+use Rattle.mz_decl.specs.Signatures.{needed, owed}
 use Rattle.mz_decl.specs.View.{plain_decls}
 use Rattle.mz_deriv.specs.View.{plain_item}
 use Rattle.mz_goal.specs.Needs.{Needs}

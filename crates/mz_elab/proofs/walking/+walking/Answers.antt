@@ -1,6 +1,6 @@
 use Rattle.std.proofs.Common.{◌≡◌, ◌≤◌, Ok, Err, refl, ap, ◌∙◌, sym, subst, reverse, length, [], ◌∷◌, map}
 use Rattle.std.proofs.lemmas.Result.{err_from_is_err_and}
-use Rattle.mz_tree.specs.Plain.{Has_atom, Int_type, Named_type}
+use Rattle.mz_tree.specs.Plain.{Has_atom, Named_type}
 use Rattle.mz_tree.specs.Code.{Case, Match_op, The_command, body_of, cases_of, con_of}
 use Rattle.mz_tree.specs.View.{plain_atom, plain_atoms, plain_body, plain_case, plain_cases, plain_command, plain_op}
 use Rattle.mz_tree.specs.declared.code.Body.{out-Body}

@@ -1,6 +1,5 @@
 use Rattle.std.proofs.Common.{ℕ, List, map, drop, reverse}
 use Rattle.mz_tree.specs.Plain.{Atom}
-use Rattle.mz_tree.specs.Code.{Case}
 use Rattle.mz_tree.specs.View.{plain_case}
 use Rattle.mz_decl.specs.View.{plain_decls}
 use Rattle.mz_elab.specs.Opening.{open_case}
