@@ -63,7 +63,7 @@ fn derives(alloc: Global, program: &Program, derivation: &Derivation) -> bool
 }
 
 /// The bytes of a text, each as a character.
-fn push_bytes(text: &mut String, bytes: &[u8]) -> Result<(), Fail> {
+pub(crate) fn push_bytes(text: &mut String, bytes: &[u8]) -> Result<(), Fail> {
     for k in 0..bytes.len() {
         text.push(bytes[k] as char)?;
     }
@@ -157,4 +157,18 @@ pub(crate) fn answer(alloc: Global, source: &str) -> Result<String, Fail> {
         return Ok(String::from_str(alloc, "not declared")?);
     }
     elaborated(alloc, &program)
+}
+
+/// The program of a source with the derivation that is found, if there is one.
+pub(crate) fn derivation_of(alloc: Global, source: &str) -> Option<(Program, Derivation)> {
+    let Some(program) = program(alloc, source.as_bytes()) else {
+        return None;
+    };
+    if !is_declared(alloc, &program) {
+        return None;
+    }
+    match elaborate(alloc, &program) {
+        Ok(derivation) => Some((program, derivation)),
+        Err(_) => None,
+    }
 }
